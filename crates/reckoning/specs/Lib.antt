@@ -1,0 +1,5 @@
+pub mod Outcomes
+pub mod Operations
+pub mod Rounding
+pub mod Enclosing
+pub mod Counting

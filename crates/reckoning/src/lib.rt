@@ -1,0 +1,8 @@
+// Reckonings: what a value in a place stands for, and how two values are blended.
+pub mod bounds;
+pub mod claims;
+pub mod grains;
+pub mod rate;
+pub mod reckoning;
+#[cfg(test)]
+mod tests;

@@ -1,0 +1,33 @@
+// Blends on small and on damaged operands.
+use crate::bounds::Bounds;
+use crate::bounds::BoundsReckoning;
+use crate::claims::Claims;
+use crate::claims::ClaimsReckoning;
+use crate::grains::Grains;
+use crate::rate::Rate;
+use crate::reckoning::Reckoning;
+use std::test::*;
+
+#[test]
+fn blends_round_outward() -> Result<(), Fail> {
+    let third = Rate::new(333_333).ok_or("a rate")?;
+    let u = Grains { lower: 1, upper: 2 };
+    let v = Grains { lower: 5, upper: 6 };
+    check_eq(Bounds::blend(third, u, v), Grains { lower: 2, upper: 4 })?;
+    check(Rate::new(1_000_001).is_none())
+}
+
+#[test]
+fn damaged_places_are_read_in_range() -> Result<(), Fail> {
+    let even = Rate::new(500_000).ok_or("a rate")?;
+    let wild = Grains { lower: 9, upper: 3 };
+    let widest = Grains {
+        lower: 0,
+        upper: 1_000_000_000_000,
+    };
+    check_eq(Bounds::blend(even, wild, wild), widest)?;
+    check_eq(Bounds::read(wild), widest)?;
+    check_eq(Claims::read(Some(9_999)), Some(256))?;
+    check_eq(Claims::blend(even, Some(9_999), None), Some(256))?;
+    check_eq(Claims::blend(even, None, Some(256)), Some(256))
+}
