@@ -1,8 +1,8 @@
 -- Outcomes over the contracts of a book in order of entry: their losses, their weights, and families of them.
 use mathlib.Core.List.{List, [], _∷_, _++_}
-use mathlib.Core.Bool.{Bool, true, false}
+use mathlib.Core.Bool.{Bool, true, false, not, _&&_}
 use Prim.Native.Nat.{ℕ, zero, suc, _+_, _-_, _*_}
-use lib.Dec.{leb}
+use lib.Dec.{leb, ltb}
 use Rattle.std.specs.shelf.Lists.{kept-by}
 
 -- says of each contract whether it claims
@@ -62,3 +62,15 @@ summed f (x ∷ xs) = f x + summed f xs
 -- the weights of a family's outcomes, summed
 abbrev pub total : List ℕ → Family → ℕ
 total rates family = summed (weight rates) family
+
+-- outside of the range from low to high
+abbrev pub outside : ℕ → ℕ → ℕ → Bool
+outside low high n = not (leb low n && leb n high)
+
+-- no loss that a contract can have
+abbrev pub loss-wrong : ℕ → Bool
+loss-wrong w = outside 1 65535 w
+
+-- more than a million millionths
+abbrev pub rate-wrong : ℕ → Bool
+rate-wrong r = ltb 1000000 r

@@ -2,6 +2,7 @@
 pub mod bounds;
 pub mod claims;
 pub mod grains;
+pub mod loss;
 pub mod rate;
 pub mod reckoning;
 #[cfg(test)]

@@ -1,7 +1,9 @@
 // A claim rate in millionths.
 ghost use mathlib.Core.Path.{_≡_};
-ghost use Prim.Native.Nat.{_<_, _≤_};
+ghost use mathlib.Core.Bool.{true};
+ghost use Prim.Native.Nat.{_≤_};
 ghost use Rattle.std.specs.Options.{Cases};
+ghost use Rattle.reckoning.specs.Outcomes.{rate-wrong};
 
 // The chance of a claim, from 0 to 1,000,000 millionths.
 #[derive(Clone, Copy, Debug, PartialEq, Eq)]
@@ -13,7 +15,7 @@ pub struct Rate {
 impl Rate {
     // The rate of that many millionths, or none where they are more than a million.
     pub fn new(millionths: u32) -> Option<Rate>
-        ensures { λ r. ⌜ Cases r (1000000 < millionths) (λ rate. rate .millionths ≡ millionths) ⌝ }
+        ensures { λ r. ⌜ Cases r (rate-wrong millionths ≡ true) (λ rate. rate .millionths ≡ millionths) ⌝ }
     {
         if millionths <= 1_000_000 {
             Some(Rate { millionths })

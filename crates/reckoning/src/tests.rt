@@ -4,13 +4,17 @@ use crate::bounds::BoundsReckoning;
 use crate::claims::Claims;
 use crate::claims::ClaimsReckoning;
 use crate::grains::Grains;
+use crate::grains::GrainsDebug;
+use crate::grains::GrainsPartialEq;
 use crate::rate::Rate;
 use crate::reckoning::Reckoning;
 use std::test::*;
 
 #[test]
 fn blends_round_outward() -> Result<(), Fail> {
-    let third = Rate::new(333_333).ok_or("a rate")?;
+    let Some(third) = Rate::new(333_333) else {
+        return Err(Fail::new("a rate"));
+    };
     let u = Grains { lower: 1, upper: 2 };
     let v = Grains { lower: 5, upper: 6 };
     check_eq(Bounds::blend(third, u, v), Grains { lower: 2, upper: 4 })?;
@@ -19,7 +23,9 @@ fn blends_round_outward() -> Result<(), Fail> {
 
 #[test]
 fn damaged_places_are_read_in_range() -> Result<(), Fail> {
-    let even = Rate::new(500_000).ok_or("a rate")?;
+    let Some(even) = Rate::new(500_000) else {
+        return Err(Fail::new("a rate"));
+    };
     let wild = Grains { lower: 9, upper: 3 };
     let widest = Grains {
         lower: 0,

@@ -1,0 +1,5 @@
+pub mod Picks
+pub mod Descents
+pub mod Turns
+pub mod Rows
+pub mod Strides

@@ -1,0 +1,34 @@
+use native.Mathlib.Omega.{arith}
+use Prim.Native.Nat.{_+_, _-_, _/_, _<_}
+use Rattle.book.proofs.Picks.{place-below, place-above, rank-within}
+use Rattle.book.proofs.merging.below.Needs as need
+
+pub loop-low-holds : need.loop-low-holds
+loop-low-holds c = (
+  omega arith,
+  omega arith,
+  λ S n l e.
+      (omega arith, rank-within S (c .args .levels .now) (c .args .len) n (c .args .x) (c .pre) e l),
+)
+
+-- the level in the middle lies below x
+pub loop-low-again-then-levels-mid : need.loop-low-again-then-levels-mid
+loop-low-again-then-levels-mid c =
+    let mid = c .loop-low .low + (c .loop-low .high - c .loop-low .low) / 2 in (
+      omega arith,
+      omega arith,
+      λ S n l e.
+          let k = place-below S (c .args .levels .now) (c .args .len) n (c .args .x) mid (c .pre) e (omega arith) (omega arith) in
+          let i = c .loop-low .inv .2 S n l e in
+          (omega arith, i .1),
+    )
+
+pub loop-low-again : need.loop-low-again
+loop-low-again c =
+    let mid = c .loop-low .low + (c .loop-low .high - c .loop-low .low) / 2 in (
+      omega arith,
+      omega arith,
+      λ S n l e.
+          let i = c .loop-low .inv .2 S n l e in
+          (i .0, place-above S (c .args .levels .now) (c .args .len) n (c .args .x) mid (c .pre) e (omega arith) (omega arith)),
+    )

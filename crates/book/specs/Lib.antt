@@ -1,0 +1,4 @@
+pub mod Listed
+pub mod Levels
+pub mod Values
+pub mod Merging

@@ -1,0 +1,3 @@
+// A loss book over lent places: its kept levels, and the values beside them.
+mod merging;
+mod valuing;
