@@ -10,7 +10,8 @@ use borrow.Rule.Slice.PartMut.{putMid}
 use Rattle.std.proofs.shelf.Tests.{cases-lt}
 use Rattle.std.proofs.shelf.Lists.{drop-take, drop-drop, length-take, length-drop}
 use Rattle.std.proofs.shelf.Parts.{take-putMid-below, drop-putMid, between-putMid}
-use Rattle.book.specs.Merging.{row-of}
+use Rattle.reckoning.specs.Operations.{Operations}
+use Rattle.book.specs.Merging.{row-of, Follows}
 
 pub ends-within : (i n p at len : ℕ) → at ≡ i * p → i < n → n * p ≤ len → at + p ≤ len
 ends-within i n p at len e l h =
@@ -59,3 +60,7 @@ pub stride-end : {V : Type 0} (p i n at : ℕ) (rows old : List V) (P : ℕ → 
 stride-end p i n at rows old P e was =
     let here : at ≡ n * p = was .0 ∙ ap (λ (v : ℕ). v * p) e in
     (ap (λ (v : ℕ). drop v rows) (sym here) ∙ was .1 ∙ ap (λ (v : ℕ). drop v old) here, λ s l. was .2 s (omega arith))
+
+-- what the merge of one row leaves: the values that follow, and the places past them as they were
+abbrev pub Merged-row : {V : Type 0} → Operations V → List ℕ → ℕ → ℕ → ℕ → ℕ → ℕ → List V → List V → Type 0
+Merged-row ops levels m n w r c old new = Follows ops levels m n w r c old new × (drop n new ≡ drop n old)

@@ -1,3 +1,10 @@
 // A loss book over lent places: its kept levels, and the values beside them.
+pub mod book;
+pub mod contract;
+mod frame;
+mod laying;
 mod merging;
+pub mod opening;
+pub mod refusal;
+pub mod shares;
 mod valuing;

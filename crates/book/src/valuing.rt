@@ -5,6 +5,7 @@ ghost use mathlib.Core.List.{List, _++_, map};
 ghost use Prim.Native.Nat.{ℕ, _+_, _*_, _<_, _≤_};
 ghost use lib.ListN.{length, take, drop, getD};
 ghost use Rattle.book.specs.Levels.{picked};
+ghost use Rattle.book.specs.Laid.{Rows-outside};
 ghost use Rattle.book.specs.Merging.{widened, Flat, Follows, row-of};
 ghost use Rattle.book.specs.Values.{entered};
 ghost use Rattle.book.specs.Listed.{millionths-of};
@@ -57,7 +58,7 @@ pub(crate) fn merge_rows<R: Reckoning>(
     rows: &mut [R::Value],
 )
     requires { ⌜ len ≤ length (now levels) ⌝ ∗ ⌜ len ≤ places ⌝ ∗ ⌜ merged ≤ places ⌝ ∗ ⌜ ceiling ≤ 65535 ⌝ ∗ ⌜ length (now rates) * places ≤ length (now rows) ⌝ }
-    ensures rest { λ _. ⌜ drop (length (now (rates .entry)) * places) (now (rows .exit)) ≡ drop (length (now (rates .entry)) * places) (now (rows .entry)) ⌝ }
+    ensures outside { λ _. ⌜ Rows-outside (length (now (rates .entry))) places merged (now (rows .entry)) (now (rows .exit)) ⌝ }
     ensures each { λ _. ⌜ ((s : ℕ) → s < length (now (rates .entry)) → Follows (R·Reckoning .operations) (now (levels .entry)) len merged loss (getD (millionths-of (now (rates .entry))) s 0) ceiling (row-of places s (now (rows .entry))) (row-of places s (now (rows .exit)))) ⌝ }
 {
     let mut at = 0;

@@ -7,7 +7,7 @@ use Rattle.reckoning.specs.declared.rate.Rate.{Rate}
 use Rattle.book.specs.Listed.{millionths-of}
 use Rattle.book.specs.Merging.{Follows}
 use borrow.Author.Needs.{needs}
-use Rattle.book.proofs.Strides.{ends-within, put-step, stride-end}
+use Rattle.book.proofs.Strides.{ends-within, put-step, stride-end, Merged-row}
 use Rattle.book.proofs.valuing.merge_rows.Needs as need
 
 pub add-at : need.add-at
@@ -45,9 +45,10 @@ loop-rate-again g c =
     let h : at + p ≤ length rows = ends-within i (length rates) p at (length rows) (c .loop-rate .inv .0) (omega arith) (omega arith) in
     let rate : c .rate-item .result .millionths ≡ getD (millionths-of rates) i 0 =
     ap (λ (r : Rate). r .millionths) (c .rate-item .is) ∙ sym (getD-map (λ (r : Rate). r .millionths) rates i (c .rate-item .result) 0 (omega arith)) in
-    let P = λ (s : ℕ). Follows (a .operations) (c .args .levels .now) (c .args .len) (c .args .merged) (c .args .loss) (getD (millionths-of rates) s 0) (c .args .ceiling) in
-    put-step p i at rows (c .args .rows .now) (c .merge-row .last .row) P h (c .merge-row .kept .row) (c .loop-rate .inv)
-    (subst (λ (r : ℕ). Follows (a .operations) (c .args .levels .now) (c .args .len) (c .args .merged) (c .args .loss) r (c .args .ceiling) (take (at + p - at) (drop at rows)) (c .merge-row .last .row)) rate (c .merge-row .ensures .merged))
+    put-step p i at rows (c .args .rows .now) (c .merge-row .last .row)
+    (λ s. Merged-row (a .operations) (c .args .levels .now) (c .args .len) (c .args .merged) (c .args .loss) (getD (millionths-of rates) s 0) (c .args .ceiling))
+    h (c .merge-row .kept .row) (c .loop-rate .inv)
+    (subst (λ (r : ℕ). Follows (a .operations) (c .args .levels .now) (c .args .len) (c .args .merged) (c .args .loss) r (c .args .ceiling) (take (at + p - at) (drop at rows)) (c .merge-row .last .row)) rate (c .merge-row .ensures .merged), c .merge-row .ensures .rest)
 
 pub returns : need.returns
 returns g c =
@@ -55,5 +56,5 @@ returns g c =
     let rates = c .args .rates .now in
     let e : c .loop-rate .rate-index ≡ length rates = omega arith in
     let r = stride-end (c .args .places) (c .loop-rate .rate-index) (length rates) (c .loop-rate .at) (c .loop-rate .rows) (c .args .rows .now)
-    (λ s. Follows (a .operations) (c .args .levels .now) (c .args .len) (c .args .merged) (c .args .loss) (getD (millionths-of rates) s 0) (c .args .ceiling)) e (c .loop-rate .inv) in
-    record { rest = r .0; each = r .1 }
+    (λ s. Merged-row (a .operations) (c .args .levels .now) (c .args .len) (c .args .merged) (c .args .loss) (getD (millionths-of rates) s 0) (c .args .ceiling)) e (c .loop-rate .inv) in
+    record { outside = record { each = λ s h. r .1 s h .1; rest = r .0 }; each = λ s h. r .1 s h .0 }

@@ -1,0 +1,27 @@
+-- What lies in the places, and what a call keeps of it.
+use mathlib.Core.Path.{_≡_}
+use mathlib.Core.List.{List}
+use Prim.Native.Nat.{ℕ, _*_, _<_}
+use lib.ListN.{drop}
+use Rattle.reckoning.specs.declared.grains.Grains.{Grains}
+use Rattle.book.specs.Merging.{row-of}
+
+-- the places that a call is lent
+pub record Places (V : Type 0) : Type 0 where
+  pub levels : List ℕ
+  pub bounds : List Grains
+  pub values : List V
+
+abbrev pub places-of : {V : Type 0} → List ℕ → List Grains → List V → Places V
+places-of l b v = record { levels = l; bounds = b; values = v }
+
+-- rows are as they were, but for the first n places of each of the scenarios' rows of p places
+pub record Rows-outside {V : Type 0} (scenarios p n : ℕ) (old new : List V) : Type 0 where
+  pub each : (s : ℕ) → s < scenarios → drop n (row-of p s new) ≡ drop n (row-of p s old)
+  pub rest : drop (scenarios * p) new ≡ drop (scenarios * p) old
+
+-- every place outside n kept levels is as it was
+pub record Outside {V : Type 0} (scenarios p n : ℕ) (old new : Places V) : Type 0 where
+  pub levels : drop n (new .levels) ≡ drop n (old .levels)
+  pub bounds : Rows-outside scenarios p n (old .bounds) (new .bounds)
+  pub values : Rows-outside scenarios p n (old .values) (new .values)

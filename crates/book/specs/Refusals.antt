@@ -1,0 +1,35 @@
+-- A refusal by its number, and the number of the first sentence that holds.
+use mathlib.Core.List.{List, [], _∷_}
+use mathlib.Core.Bool.{Bool, cond}
+use Prim.Native.Nat.{ℕ}
+use Rattle.std.specs.declared.option.Option.{Option}
+use Rattle.std.specs.declared.option.Option.the-variants.{Some, None}
+use Rattle.std.specs.declared.result.Result.{Result}
+use Rattle.std.specs.declared.result.Result.the-variants.{Ok, Err}
+use Rattle.book.specs.declared.refusal.Refusal.{Refusal}
+use Rattle.book.specs.declared.refusal.Refusal.the-variants.{Ceiling, Shares, Places, Loss, Rates, Present, Full, Levels, Scenario, Level}
+
+abbrev pub number-of : Refusal → ℕ
+number-of Ceiling = 5
+number-of Shares = 6
+number-of Places = 7
+number-of Loss = 8
+number-of Rates = 9
+number-of Present = 11
+number-of Full = 12
+number-of Levels = 13
+number-of Scenario = 14
+number-of Level = 15
+
+-- the number of a call's refusal, none where it is accepted
+abbrev pub refusal-of : {T : Type 0} → Result T Refusal → Option ℕ
+refusal-of (Ok x) = None
+refusal-of (Err e) = Some (number-of e)
+
+-- sentences under their numbers, and the number of the first that holds
+abbrev pub Sentences : Type 0
+Sentences = List (ℕ × Bool)
+
+abbrev pub first : Sentences → Option ℕ
+first [] = None
+first (s ∷ ss) = cond (s .1) (Some (s .0)) (first ss)
