@@ -1,3 +1,4 @@
+pub mod Somes
 pub mod Picks
 pub mod Descents
 pub mod Turns

@@ -1,6 +1,6 @@
 -- When a call is declined: its sentences in the order of their numbers, read with the plain list for the book.
 use mathlib.Core.List.{List, [], _∷_, _++_}
-use mathlib.Core.Bool.{Bool, true, false, cond, not, _||_}
+use mathlib.Core.Bool.{Bool, not, _||_}
 use Prim.Native.Nat.{ℕ, _+_, _*_}
 use lib.Dec.{leb, ltb, eqb}
 use lib.ListN.{length}
@@ -8,6 +8,7 @@ use Rattle.reckoning.specs.Outcomes.{summed, outside, loss-wrong, rate-wrong}
 use Rattle.book.specs.Levels.{kept}
 use Rattle.book.specs.Plain.{Plain, size, scenarios, losses, holds-key}
 use Rattle.book.specs.Refusals.{Sentences}
+use Rattle.book.specs.Some.{some}
 
 -- how many places a call is handed
 pub record Handed : Type 0 where
@@ -32,13 +33,9 @@ ceiling-wrong c = outside 1 65535 c
 abbrev pub shares-wrong : List ℕ → Bool
 shares-wrong ws = outside 1 8 (length ws) || not (eqb (summed (λ w. w) ws) 1000000)
 
-abbrev pub some-rate-wrong : List ℕ → Bool
-some-rate-wrong [] = false
-some-rate-wrong (r ∷ rs) = rate-wrong r || some-rate-wrong rs
-
 -- for n scenarios
 abbrev pub rates-wrong : ℕ → List ℕ → Bool
-rates-wrong n rs = not (eqb (length rs) n) || some-rate-wrong rs
+rates-wrong n rs = not (eqb (length rs) n) || some rate-wrong rs
 
 abbrev pub too-many-levels : Plain → ℕ → Bool
 too-many-levels p w = ltb (p .places) (length (kept (p .ceiling) (losses p ++ (w ∷ []))))

@@ -4,6 +4,7 @@ use mathlib.Core.List.{List}
 use Prim.Native.Nat.{ℕ, _*_, _<_}
 use lib.ListN.{drop}
 use Rattle.reckoning.specs.declared.grains.Grains.{Grains}
+use Rattle.book.specs.declared.book.Book.{Book}
 use Rattle.book.specs.Merging.{row-of}
 
 -- the places that a call is lent
@@ -25,3 +26,11 @@ pub record Outside {V : Type 0} (scenarios p n : ℕ) (old new : Places V) : Typ
   pub levels : drop n (new .levels) ≡ drop n (old .levels)
   pub bounds : Rows-outside scenarios p n (old .bounds) (new .bounds)
   pub values : Rows-outside scenarios p n (old .values) (new .values)
+
+-- a book and its places
+pub record State (V : Type 0) : Type 0 where
+  pub book : Book
+  pub places : Places V
+
+abbrev pub state : {V : Type 0} → Book → List ℕ → List Grains → List V → State V
+state b l g v = record { book = b; places = places-of l g v }

@@ -1,20 +1,16 @@
 -- The kept levels of a book: the distinct losses of its outcomes, up to the ceiling.
 use mathlib.Core.List.{List, [], _∷_, _++_}
-use mathlib.Core.Bool.{Bool, true, false, cond, _||_}
+use mathlib.Core.Bool.{Bool, cond}
 use Prim.Native.Nat.{ℕ, zero, suc, _+_}
 use lib.Dec.{eqb}
 use lib.ListN.{length}
-use Rattle.reckoning.specs.Outcomes.{Outcome, Family, loss, outcomes}
+use Rattle.reckoning.specs.Outcomes.{loss, outcomes}
+use Rattle.book.specs.Some.{some}
 
 -- the numbers below n that the test S holds of, in rising order
 abbrev pub picked : (ℕ → Bool) → ℕ → List ℕ
 picked S zero = []
 picked S (suc n) = cond (S n) (picked S n ++ (n ∷ [])) (picked S n)
-
--- some outcome of the family passes the test
-abbrev pub some : (Outcome → Bool) → Family → Bool
-some t [] = false
-some t (o ∷ os) = t o || some t os
 
 -- k is the loss of some outcome, of weight zero or not
 abbrev pub comes-to : List ℕ → ℕ → Bool

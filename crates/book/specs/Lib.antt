@@ -1,3 +1,4 @@
+pub mod Some
 pub mod Levels
 pub mod Values
 pub mod Merging

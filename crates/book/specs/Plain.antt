@@ -1,9 +1,10 @@
 -- The plain list: what a book is by the arguments of its calls alone.
-use mathlib.Core.List.{List, [], _∷_, map}
-use mathlib.Core.Bool.{Bool, true, false, cond}
+use mathlib.Core.List.{List, [], _∷_, _++_, map}
+use mathlib.Core.Bool.{Bool}
 use Prim.Native.Nat.{ℕ, _-_}
 use lib.Dec.{eqb}
 use lib.ListN.{length, getD}
+use Rattle.book.specs.Some.{some}
 
 pub record Entry : Type 0 where
   pub key : ℕ
@@ -39,5 +40,14 @@ abbrev pub same-key : ℕ → ℕ → Bool
 same-key j k = eqb j k
 
 abbrev pub holds-key : ℕ → List Entry → Bool
-holds-key k [] = false
-holds-key k (c ∷ cs) = cond (same-key (c .key) k) true (holds-key k cs)
+holds-key k es = some (λ e. same-key (e .key) k) es
+
+abbrev pub opened : ℕ → ℕ → List ℕ → Plain
+opened places ceiling shares = record { ceiling = ceiling; shares = shares; places = places; contracts = [] }
+
+-- with one contract more
+abbrev pub with-entry : Plain → Entry → Plain
+with-entry p e = record { ceiling = p .ceiling; shares = p .shares; places = p .places; contracts = p .contracts ++ (e ∷ []) }
+
+abbrev pub entry : ℕ → ℕ → List ℕ → Entry
+entry k w rs = record { key = k; loss = w; rates = rs }

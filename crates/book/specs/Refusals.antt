@@ -1,4 +1,6 @@
 -- A refusal by its number, and the number of the first sentence that holds.
+use mathlib.Core.Path.{_≡_}
+use mathlib.Core.Logic.{_⊎_}
 use mathlib.Core.List.{List, [], _∷_}
 use mathlib.Core.Bool.{Bool, cond}
 use Prim.Native.Nat.{ℕ}
@@ -33,3 +35,8 @@ Sentences = List (ℕ × Bool)
 abbrev pub first : Sentences → Option ℕ
 first [] = None
 first (s ∷ ss) = cond (s .1) (Some (s .0)) (first ss)
+
+-- the early sentences decide; where none of them holds the call is accepted or gets the number n
+abbrev pub Free-of : ℕ → Option ℕ → Option ℕ → Type 0
+Free-of n (Some early) r = r ≡ Some early
+Free-of n None r = (r ≡ None) ⊎ (r ≡ Some n)

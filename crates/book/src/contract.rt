@@ -1,4 +1,6 @@
 // A contract as the book holds it.
+ghost use mathlib.Core.Path.{_≡_};
+ghost use lib.ListN.{length};
 use reckoning::loss::Loss;
 use reckoning::rate::Rate;
 
@@ -8,4 +10,5 @@ pub struct Contract {
     pub(crate) key: u32,
     pub(crate) loss: Loss,
     pub(crate) rates: [Rate; 8],
+    ghost eight: { length rates ≡ 8 },
 }

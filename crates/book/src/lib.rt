@@ -1,6 +1,7 @@
 // A loss book over lent places: its kept levels, and the values beside them.
 pub mod book;
 pub mod contract;
+pub mod entering;
 mod frame;
 mod laying;
 mod merging;

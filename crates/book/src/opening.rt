@@ -7,13 +7,25 @@ ghost use lib.ListN.{length, take};
 ghost use Rattle.std.specs.Options.{Cases};
 ghost use Rattle.std.specs.Vec.{made};
 ghost use Rattle.reckoning.specs.Outcomes.{summed};
-ghost use Rattle.book.specs.Declines.{handed, short, shares-wrong};
+ghost use Rattle.std.specs.Results as Results;
+ghost use Rattle.std.specs.declared.option.Option.the-variants.{None};
+ghost use Rattle.book.specs.Declines.{handed, short, shares-wrong, open-sentences};
+ghost use Rattle.book.specs.Laid.{places-of, state, Outside};
 ghost use Rattle.book.specs.Listed.{shares-of, listed};
-ghost use Rattle.book.specs.Plain.{unopened};
+ghost use Rattle.book.specs.Plain.{unopened, opened};
+ghost use Rattle.book.specs.Refusals.{first, refusal-of};
 use crate::book::Book;
+use crate::laying::begin;
+use crate::refusal::Refusal;
 use crate::shares::Shares;
+use reckoning::grains::Grains;
+use reckoning::reckoning::Reckoning;
 use std::alloc::AllocError;
 use std::alloc::Global;
+
+// What an accepted open answers.
+#[derive(Clone, Copy, Debug, PartialEq, Eq)]
+pub struct Opened;
 
 // The sum of at most eight shares.
 fn total(shares: &[u32]) -> u64
@@ -73,6 +85,39 @@ impl Book {
             places: 0,
             kept: 0,
         })
+    }
+
+    // Sets ceiling and shares and empties the book, whatever it and the places held.
+    pub fn open<R: Reckoning>(
+        &mut self,
+        ceiling: u32,
+        shares: &[u32],
+        levels: &mut [u32],
+        bounds: &mut [Grains],
+        values: &mut [R::Value],
+    ) -> Result<Opened, Refusal>
+        ensures declines { λ r. ⌜ refusal-of r ≡ first (open-sentences (handed (length (now (levels .entry))) (length (now (bounds .entry))) (length (now (values .entry)))) ceiling (now (shares .entry))) ⌝ }
+        ensures list { λ r. ⌜ (refusal-of r ≡ None → listed (now (self .exit)) ≡ opened (length (now (levels .entry))) ceiling (now (shares .entry))) ⌝ }
+        ensures keeps { λ r. ⌜ (refusal-of r ≡ None → Outside (length (now (shares .entry))) (length (now (levels .entry))) 1 (places-of (now (levels .entry)) (now (bounds .entry)) (now (values .entry))) (places-of (now (levels .exit)) (now (bounds .exit)) (now (values .exit)))) ⌝ }
+        ensures unchanged { λ r. ⌜ Results.Cases r (λ _. Unit {0}) (λ _. state (now (self .exit)) (now (levels .exit)) (now (bounds .exit)) (now (values .exit)) ≡ state (now (self .entry)) (now (levels .entry)) (now (bounds .entry)) (now (values .entry))) ⌝ }
+    {
+        if ceiling < 1 || ceiling > 65_535 {
+            return Err(Refusal::Ceiling);
+        }
+        let Some(shares) = Shares::new(shares) else {
+            return Err(Refusal::Shares);
+        };
+        let scenarios = shares.count;
+        if places_short(levels.len(), bounds.len(), values.len(), scenarios) {
+            return Err(Refusal::Places);
+        }
+        begin::<R>(scenarios, levels, bounds, values);
+        self.contracts.clear();
+        self.shares = shares;
+        self.ceiling = ceiling;
+        self.places = levels.len();
+        self.kept = 1;
+        Ok(Opened)
     }
 }
 
