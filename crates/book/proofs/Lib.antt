@@ -4,3 +4,5 @@ pub mod Descents
 pub mod Turns
 pub mod Rows
 pub mod Strides
+pub mod Mixtures
+pub mod Lookups

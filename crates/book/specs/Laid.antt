@@ -1,7 +1,7 @@
 -- What lies in the places, and what a call keeps of it.
 use mathlib.Core.Path.{_≡_}
 use mathlib.Core.List.{List}
-use Prim.Native.Nat.{ℕ, _*_, _<_}
+use Prim.Native.Nat.{ℕ, _*_, _<_, _≤_}
 use lib.ListN.{drop}
 use Rattle.reckoning.specs.declared.grains.Grains.{Grains}
 use Rattle.book.specs.declared.book.Book.{Book}
@@ -34,3 +34,10 @@ pub record State (V : Type 0) : Type 0 where
 
 abbrev pub state : {V : Type 0} → Book → List ℕ → List Grains → List V → State V
 state b l g v = record { book = b; places = places-of l g v }
+
+-- the places fit the book
+pub record Room (b : Book) (levels bounds values : ℕ) : Type 0 where
+  pub some : 1 ≤ levels
+  pub same : levels ≡ b .places
+  pub for-bounds : b .shares .count * b .places ≤ bounds
+  pub for-values : b .shares .count * b .places ≤ values

@@ -7,3 +7,4 @@ pub mod Refusals
 pub mod Declines
 pub mod Listed
 pub mod Laid
+pub mod Figures

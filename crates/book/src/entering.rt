@@ -12,7 +12,7 @@ ghost use Rattle.std.specs.Options as Options;
 ghost use Rattle.std.specs.Results as Results;
 ghost use Rattle.std.specs.declared.option.Option.the-variants.{Some, None};
 ghost use Rattle.book.specs.Declines.{handed, places-wrong, rates-wrong, enter-early};
-ghost use Rattle.book.specs.Laid.{places-of, state, Outside};
+ghost use Rattle.book.specs.Laid.{places-of, state, Outside, Room};
 ghost use Rattle.book.specs.Listed.{millionths-of, entry-of, listed};
 ghost use Rattle.book.specs.Plain.{size, scenarios, same-key, holds-key, entry, with-entry};
 ghost use Rattle.book.specs.Refusals.{first, refusal-of, Free-of};
@@ -71,7 +71,8 @@ impl Book {
 
     // Whether the places do not fit the book.
     pub(crate) fn are_places_wrong(&self, levels: usize, bounds: usize, values: usize) -> bool
-        ensures { λ r. ⌜ r ≡ places-wrong (handed levels bounds values) (listed (now (self .entry))) ⌝ }
+        ensures value { λ r. ⌜ r ≡ places-wrong (handed levels bounds values) (listed (now (self .entry))) ⌝ }
+        ensures room { λ r. ⌜ (r ≡ false → Room (now (self .entry)) levels bounds values) ⌝ }
     {
         places_short(levels, bounds, values, self.shares.count) || levels != self.places
     }

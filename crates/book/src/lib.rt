@@ -8,4 +8,5 @@ mod merging;
 pub mod opening;
 pub mod refusal;
 pub mod shares;
+pub mod telling;
 mod valuing;

@@ -1,0 +1,13 @@
+use mathlib.Core.Path.{refl}
+use Prim.Native.Nat.{_-_, _*_}
+use native.Mathlib.Omega.{arith}
+use lib.ListN.{length}
+use Rattle.book.proofs.Strides.{ends-within}
+use Rattle.book.proofs.book.Book.chance.Needs as need
+
+pub told-told-requires : need.told-told-requires
+told-told-requires g c κs =
+    let b = c .args .self .now in
+    let p = b .places in
+    let room = c .are-places-wrong .ensures .room (c .if-are-places-wrong .left) in
+    (omega arith, ends-within (c .args .scenario - 1) (b .shares .count) p ((c .args .scenario - 1) * p) (length (c .args .bounds .now)) refl (omega arith) (room .for-bounds))

@@ -1,0 +1,21 @@
+-- The figures that calls tell.
+use mathlib.Core.List.{List, [], _∷_}
+use mathlib.Core.Bool.{Bool, cond}
+use Prim.Native.Nat.{ℕ, suc, _-_}
+use lib.Dec.{eqb}
+use lib.ListN.{getD}
+use Rattle.reckoning.specs.declared.grains.Grains.{Grains}
+use Rattle.reckoning.specs.Rounding.{rounded-out}
+
+-- shares beside the numbers of their scenarios, the first numbered s
+abbrev pub numbered : ℕ → List ℕ → List (ℕ × ℕ)
+numbered s [] = []
+numbered s (w ∷ ws) = (w, s) ∷ numbered (suc s) ws
+
+-- share times pair summed over the scenarios, and divided by a million, the lower count down and the upper up
+abbrev pub mixed : List ℕ → (ℕ → Grains) → Grains
+mixed shares g = rounded-out 1000000 (λ x. x .0) (λ x. g (x .1)) (numbered 1 shares)
+
+-- what a row tells where n of its levels are not above the level asked for: the last of them, nothing if there is none
+abbrev pub told-at : {V : Type 0} → (V → V) → V → List V → ℕ → V
+told-at reading nothing row n = cond (eqb n 0) nothing (reading (getD row (n - 1) nothing))
