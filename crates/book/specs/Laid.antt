@@ -1,10 +1,16 @@
 -- What lies in the places, and what a call keeps of it.
 use mathlib.Core.Path.{_≡_}
-use mathlib.Core.List.{List}
-use Prim.Native.Nat.{ℕ, _*_, _<_, _≤_}
-use lib.ListN.{drop}
+use mathlib.Core.List.{List, map}
+use Prim.Native.Nat.{ℕ, _+_, _*_, _<_, _≤_}
+use lib.ListN.{take, drop}
 use Rattle.reckoning.specs.declared.grains.Grains.{Grains}
+use Rattle.reckoning.specs.Enclosing as Enclosing
+use Rattle.reckoning.specs.Operations.{Operations}
 use Rattle.book.specs.declared.book.Book.{Book}
+use Rattle.book.specs.Levels.{kept}
+use Rattle.book.specs.Listed.{listed}
+use Rattle.book.specs.Plain.{Plain, scenarios, losses}
+use Rattle.book.specs.Values.{value}
 use Rattle.book.specs.Merging.{row-of}
 
 -- the places that a call is lent
@@ -41,3 +47,14 @@ pub record Room (b : Book) (levels bounds values : ℕ) : Type 0 where
   pub same : levels ≡ b .places
   pub for-bounds : b .shares .count * b .places ≤ bounds
   pub for-values : b .shares .count * b .places ≤ values
+
+-- n values in each scenario's row: those at the kept levels
+abbrev pub Rows-hold : {V : Type 0} → Operations V → Plain → ℕ → List V → Type 0
+Rows-hold ops p n rows =
+    (s : ℕ) → s < scenarios p → take n (row-of (p .places) s rows) ≡ map (value ops p (s + 1)) (kept (p .ceiling) (losses p))
+
+-- the places hold what the book says
+pub record Holds {V : Type 0} (ops : Operations V) (b : Book) (x : Places V) : Type 0 where
+  pub levels : take (b .kept) (x .levels) ≡ kept (b .ceiling) (losses (listed b))
+  pub bounds : Rows-hold Enclosing.bounds (listed b) (b .kept) (x .bounds)
+  pub values : Rows-hold ops (listed b) (b .kept) (x .values)

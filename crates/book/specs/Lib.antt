@@ -1,10 +1,10 @@
 pub mod Some
-pub mod Levels
-pub mod Values
-pub mod Merging
 pub mod Plain
 pub mod Refusals
+pub mod Levels
+pub mod Values
+pub mod Figures
 pub mod Declines
+pub mod Merging
 pub mod Listed
 pub mod Laid
-pub mod Figures

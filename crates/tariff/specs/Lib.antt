@@ -1,0 +1,6 @@
+pub mod Texts
+pub mod Places
+pub mod Reads
+pub mod Told
+pub mod Trailers
+pub mod Refusals

@@ -1,0 +1,12 @@
+// The tariff file: its numbers, its lines, its trailer, and the texts that are told of a book.
+mod bytes;
+mod digits;
+pub mod fault;
+pub mod line;
+pub mod number;
+pub mod refusal;
+#[cfg(test)]
+mod tests;
+pub mod text;
+pub mod trailer;
+mod writing;
