@@ -6,3 +6,4 @@ pub mod Standing
 pub mod Lines
 pub mod Trailing
 pub mod LinesPut
+pub mod LineWalks

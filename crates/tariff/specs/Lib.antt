@@ -4,3 +4,5 @@ pub mod Reads
 pub mod Told
 pub mod Trailers
 pub mod Refusals
+pub mod Grammar
+pub mod Reading

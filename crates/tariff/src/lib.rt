@@ -4,6 +4,7 @@ mod digits;
 pub mod fault;
 pub mod line;
 pub mod number;
+pub mod reading;
 pub mod refusal;
 #[cfg(test)]
 mod tests;
