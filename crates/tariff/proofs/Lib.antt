@@ -7,3 +7,4 @@ pub mod Lines
 pub mod Trailing
 pub mod LinesPut
 pub mod LineWalks
+pub mod Tables

@@ -1,18 +1,20 @@
 -- The numbers of a line: each is ended by the byte behind it, so that a line has one reading.
 use mathlib.Core.Path.{_≡_, refl, sym, ap, _∙_, subst}
 use mathlib.Core.List.{List, [], _∷_, _++_, append-assoc}
-use mathlib.Core.Logic.{_⊎_, inl, inr, ⊎-elim}
+use mathlib.Core.Logic.{inl, inr, ⊎-elim}
 use Prim.Native.Nat.{ℕ, _+_, _-_, _<_, _≤_, _^_}
 use native.Mathlib.Omega.{arith}
 use lib.ListN.{length, getD, take, drop, set, length-append}
 use Rattle.std.specs.Written.{decimal}
 use Rattle.std.specs.shelf.Lists.{All}
 use Rattle.std.proofs.shelf.Elements.{all-getD, all-push}
-use Rattle.std.proofs.shelf.Lists.{getD-append-left, getD-push, append-nil, length-push, take-more-set, take-all, drop-more, drop-all}
+use Rattle.std.proofs.shelf.Lists.{getD-append-left, getD-push, append-nil, length-push, take-more-set, take-all, length-take-le, drop-more, drop-all}
 use Rattle.std.proofs.shelf.Tests.{cases-lt, cases-order}
 use Rattle.std.proofs.shelf.Decimals.{same-from-decimal}
+use Rattle.tariff.specs.declared.fault.Malformed.{Malformed}
+use Rattle.tariff.specs.declared.fault.Malformed.the-variants.{Letter, NoSpace, Number, NoEnd}
 use Rattle.tariff.specs.Places.{Stands}
-use Rattle.tariff.specs.Reads.{Ends-field, Field-end, Ended-number, Line-at}
+use Rattle.tariff.specs.Reads.{Ends-field, Field-end, Ended-number, Spaced-fault, Front-at, Line-fault, Line-at}
 use Rattle.tariff.specs.Texts.{numbers-text, line-text}
 use Rattle.tariff.proofs.Fields.{field-has-digits}
 use Rattle.tariff.proofs.Standing.{stands-within, stands-front, stands-rest, stands-joined, stands-reads, apart-by-first, part-stands}
@@ -189,3 +191,14 @@ same-line bytes place letter ns ms x y =
     same-numbers bytes (place + 1) ns ms (x .small) (y .small)
     (stands-rest bytes place (letter ∷ []) (numbers-text ns ++ (10 ∷ [])) (x .stands))
     (stands-rest bytes place (letter ∷ []) (numbers-text ms ++ (10 ∷ [])) (y .stands))
+
+pub front-read : (bytes : List ℕ) (place letter i at : ℕ) (xs : List ℕ) → i ≤ length xs →
+    Stands bytes place (letter ∷ numbers-text (take i xs)) → at ≡ place + length (letter ∷ numbers-text (take i xs)) → Front-at bytes place letter i at
+front-read bytes place letter i at xs h s e = record { numbers = take i xs; counted = length-take-le i xs h; stands = s; behind = e }
+
+-- a fault behind a front of fewer numbers is one of the line
+pub fault-behind-front : (bytes : List ℕ) (place letter count i at : ℕ) (e : Malformed) → i < count → Front-at bytes place letter i at → Spaced-fault bytes at e → Line-fault bytes place letter count e
+fault-behind-front bytes place letter count i at Letter h f x = absurd x
+fault-behind-front bytes place letter count i at NoSpace h f x = (i, h, (at, f, x))
+fault-behind-front bytes place letter count i at (Number e) h f x = (i, h, (at, f, x))
+fault-behind-front bytes place letter count i at NoEnd h f x = absurd x

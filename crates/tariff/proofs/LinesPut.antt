@@ -10,7 +10,7 @@ use Rattle.tariff.specs.Places.{written}
 use Rattle.tariff.specs.Texts.{numbers-text, line-text, padded, trailer-text}
 use Rattle.tariff.proofs.Lines.{numbers-text-push}
 use Rattle.tariff.proofs.Padded.{length-padded}
-use Rattle.tariff.proofs.Writings.{written-nothing, written-more}
+use Rattle.tariff.proofs.Writings.{written-more}
 
 pub numbers-text-append : (ms ns : List ℕ) → numbers-text (ms ++ ns) ≡ numbers-text ms ++ numbers-text ns
 numbers-text-append [] ns = refl

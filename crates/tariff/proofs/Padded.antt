@@ -6,7 +6,7 @@ use Prim.Native.Nat.{ℕ, zero, suc, _+_, _*_, _/_, _%_, _^_, _<_, _≤_}
 use native.Mathlib.Omega.{arith}
 use native.Mathlib.Nat.{pow-suc}
 use native.Mathlib.Numerals.{add-one}
-use lib.ListN.{length, getD, length-append}
+use lib.ListN.{length, getD}
 use Rattle.std.specs.Written.{decimal}
 use Rattle.std.specs.Text.{In}
 use Rattle.std.proofs.shelf.Lists.{length-push, getD-append-left, getD-push, same-from-push}

@@ -1,7 +1,7 @@
 -- Texts that stand in bytes.
 use mathlib.Core.Path.{_≡_, refl, sym, ap, _∙_}
 use mathlib.Core.List.{List, [], _∷_, _++_}
-use Prim.Native.Nat.{ℕ, _+_, _-_, _<_, _≤_, min}
+use Prim.Native.Nat.{ℕ, _+_, _-_, _<_, _≤_}
 use native.Mathlib.Omega.{arith}
 use lib.ListN.{length, getD, take, drop, length-append, length-take, length-drop}
 use lib.Seq.{take-add}
@@ -84,3 +84,7 @@ pub written-stands : (bytes : List ℕ) (place : ℕ) (text : List ℕ) → plac
 written-stands bytes place text h =
     let l = length-take-le place bytes h in
     ap (take (length text)) (drop-at (take place bytes) (text ++ drop (place + length text) bytes) place l) ∙ take-at text (drop (place + length text) bytes) (length text) refl
+
+-- texts of one length that stand at one place are equal
+pub same-standing : (bytes : List ℕ) (place : ℕ) (a b : List ℕ) → length a ≡ length b → Stands bytes place a → Stands bytes place b → a ≡ b
+same-standing bytes place a b l s t = sym s ∙ ap (λ (k : ℕ). take k (drop place bytes)) l ∙ t

@@ -1,5 +1,5 @@
 -- The fields of a trailer.
-use mathlib.Core.Path.{_≡_, refl, sym, ap, _∙_, subst}
+use mathlib.Core.Path.{_≡_, sym, ap, _∙_, subst}
 use mathlib.Core.List.{List, [], _∷_, _++_}
 use Prim.Native.Nat.{ℕ, suc, _+_, _-_, _*_, _<_, _≤_, _^_}
 use native.Mathlib.Omega.{arith}
@@ -11,10 +11,10 @@ use Rattle.std.specs.declared.option.Option.{Option}
 use Rattle.std.specs.declared.option.Option.the-variants.{Some, None}
 use Rattle.std.proofs.shelf.Lists.{take-more, take-all}
 use Rattle.tariff.specs.Places.{Stands}
-use Rattle.tariff.specs.Texts.{padded, trailer-text}
+use Rattle.tariff.specs.Texts.{padded}
 use Rattle.tariff.specs.Trailers.{Trailer-of, Reads-digits, Reads-spaced-digits}
-use Rattle.tariff.proofs.Padded.{length-padded, padded-push, padded-has-digits}
-use Rattle.tariff.proofs.Standing.{stands-within, stands-front, stands-rest, stands-joined, part-stands}
+use Rattle.tariff.proofs.Padded.{length-padded, padded-push, padded-has-digits, same-from-padded}
+use Rattle.tariff.proofs.Standing.{stands-front, stands-rest, stands-joined, part-stands, same-standing}
 
 pub few-digits-fit : (i n : ℕ) → i < 9 → n < 10 ^ i → n * 10 + 9 < 2 ^ 32
 few-digits-fit i n h b = let l : i ≤ 8 = omega arith in let p : 10 ^ i ≤ 10 ^ 8 = pow-le-pow-right (omega arith) l in omega arith
@@ -126,3 +126,20 @@ module _ (bytes : List ℕ) (ceiling scenarios contracts place : ℕ) where
   trailer-apart t =
       fields-apart bytes (32 ∷ padded 5 ceiling) (32 ∷ padded 1 scenarios) (32 ∷ padded 3 contracts) (32 ∷ padded 3 place)
       (spaced-length 5 ceiling) (spaced-length 1 scenarios) (spaced-length 3 contracts) (spaced-length 3 place) (t .text)
+
+same-spaced : (bytes : List ℕ) (place k m n : ℕ) → m < 10 ^ k → n < 10 ^ k → Stands bytes place (32 ∷ padded k m) → Stands bytes place (32 ∷ padded k n) → m ≡ n
+same-spaced bytes place k m n a b s t =
+    same-from-padded k m n a b (ap (drop 1) (same-standing bytes place (32 ∷ padded k m) (32 ∷ padded k n) (spaced-length k m ∙ sym (spaced-length k n)) s t))
+
+-- bytes are the trailer of one set of numbers
+pub same-trailer : (bytes : List ℕ) (ceiling scenarios contracts place ceiling′ scenarios′ contracts′ place′ : ℕ) →
+    Trailer-of bytes ceiling scenarios contracts place → Trailer-of bytes ceiling′ scenarios′ contracts′ place′ →
+    (ceiling ≡ ceiling′) × (scenarios ≡ scenarios′) × (contracts ≡ contracts′) × (place ≡ place′)
+same-trailer bytes ceiling scenarios contracts place ceiling′ scenarios′ contracts′ place′ t u =
+    let x = trailer-apart bytes ceiling scenarios contracts place t in
+    let y = trailer-apart bytes ceiling′ scenarios′ contracts′ place′ u in (
+      same-spaced bytes 1 5 ceiling ceiling′ (t .ceiling-fits) (u .ceiling-fits) (x .2) (y .2),
+      same-spaced bytes 7 1 scenarios scenarios′ (t .scenarios-fit) (u .scenarios-fit) (x .3) (y .3),
+      same-spaced bytes 9 3 contracts contracts′ (t .contracts-fit) (u .contracts-fit) (x .4) (y .4),
+      same-spaced bytes 13 3 place place′ (t .place-fits) (u .place-fits) (x .5) (y .5),
+    )

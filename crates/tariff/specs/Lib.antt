@@ -6,3 +6,4 @@ pub mod Trailers
 pub mod Refusals
 pub mod Grammar
 pub mod Reading
+pub mod Tables

@@ -3,9 +3,9 @@ use mathlib.Core.Path.{_≡_}
 use mathlib.Core.Bool.{cond}
 use mathlib.Core.List.{List, [], _∷_, _++_}
 use mathlib.Core.Logic.{_⊎_}
-use Prim.Native.Nat.{ℕ, _+_, _<_, _≤_, _^_}
+use Prim.Native.Nat.{ℕ, _+_, _-_, _<_, _≤_, _^_}
 use lib.Dec.{eqb}
-use lib.ListN.{length, getD}
+use lib.ListN.{length, getD, take, drop}
 use Rattle.std.specs.Reads.{value}
 use Rattle.std.specs.Written.{decimal}
 use Rattle.std.specs.shelf.Lists.{All}
@@ -14,10 +14,11 @@ use Rattle.std.specs.declared.result.Result.the-variants.{Ok, Err}
 use Rattle.tariff.specs.declared.fault.NumberFault.{NumberFault}
 use Rattle.tariff.specs.declared.fault.NumberFault.the-variants.{Empty, LeadingZero, NoDigit, TooLarge}
 use Rattle.tariff.specs.declared.fault.Malformed.{Malformed}
+use Rattle.tariff.specs.declared.fault.Malformed.the-variants.{Letter, NoSpace, Number, NoEnd}
 use Rattle.tariff.specs.declared.fault.LineKind.{LineKind}
 use Rattle.tariff.specs.declared.fault.LineKind.the-variants.{Share, Contract, Trailer, Other}
 use Rattle.tariff.specs.Places.{Stands}
-use Rattle.tariff.specs.Texts.{line-text}
+use Rattle.tariff.specs.Texts.{line-text, numbers-text}
 
 -- a field is the decimal digits of a number of 32 bits, with no leading zero
 abbrev pub Reads-number : List ℕ → Result ℕ NumberFault → Type 0
@@ -59,6 +60,27 @@ Reads-spaced bytes place (Ok p) =
     (p .0 < 2 ^ 32) × Stands bytes place (32 ∷ decimal (p .0)) × (p .1 ≡ place + length (32 ∷ decimal (p .0))) × (p .1 ≤ length bytes)
     × ((m : ℕ) → Ended-number bytes place m → m ≡ p .0)
 Reads-spaced bytes place (Err e) = (m : ℕ) → Ended-number bytes place m → ⊥
+
+-- what is wrong where a number behind a space is due: no space, or the field behind it is no number
+abbrev pub Spaced-fault : List ℕ → ℕ → Malformed → Type 0
+Spaced-fault bytes place Letter = ⊥
+Spaced-fault bytes place NoSpace = Stands bytes place (32 ∷ []) → ⊥
+Spaced-fault bytes place (Number e) = Stands bytes place (32 ∷ []) × ((end : ℕ) × Field-end bytes (place + 1) end × Fault-of (take (end - (place + 1)) (drop (place + 1) bytes)) e)
+Spaced-fault bytes place NoEnd = ⊥
+
+-- a line's letter and so many numbers stand at a place, and behind them comes the next place
+pub record Front-at (bytes : List ℕ) (place letter count next : ℕ) : Type 0 where
+  pub numbers : List ℕ
+  pub counted : length numbers ≡ count
+  pub stands : Stands bytes place (letter ∷ numbers-text numbers)
+  pub behind : next ≡ place + length (letter ∷ numbers-text numbers)
+
+-- what is wrong with a line of so many numbers: its letter, a number behind fewer of them, its end
+abbrev pub Line-fault : List ℕ → ℕ → ℕ → ℕ → Malformed → Type 0
+Line-fault bytes place letter count Letter = Stands bytes place (letter ∷ []) → ⊥
+Line-fault bytes place letter count NoSpace = (i : ℕ) × (i < count) × ((at : ℕ) × Front-at bytes place letter i at × Spaced-fault bytes at NoSpace)
+Line-fault bytes place letter count (Number e) = (i : ℕ) × (i < count) × ((at : ℕ) × Front-at bytes place letter i at × Spaced-fault bytes at (Number e))
+Line-fault bytes place letter count NoEnd = (at : ℕ) × Front-at bytes place letter count at × (Stands bytes at (10 ∷ []) → ⊥)
 
 -- a line with these numbers, each of 32 bits, stands at a place
 pub record Line-at (bytes : List ℕ) (place letter : ℕ) (ns : List ℕ) : Type 0 where

@@ -6,6 +6,7 @@ pub mod line;
 pub mod number;
 pub mod reading;
 pub mod refusal;
+pub mod statement;
 #[cfg(test)]
 mod tests;
 pub mod text;

@@ -1,5 +1,7 @@
 // A line of the file: a letter, numbers behind spaces, and a line end.
-ghost use Rattle.tariff.specs.Reads.{Reads-spaced, Reads-line};
+ghost use lib.ListN.{length};
+ghost use Rattle.std.specs.Vec.{refused};
+ghost use Rattle.tariff.specs.Reads.{Reads-spaced, Reads-line, Spaced-fault, Line-fault};
 use crate::bytes::has_byte;
 use crate::fault::Malformed;
 use crate::fault::MalformedFromNumber;
@@ -15,6 +17,7 @@ pub fn read_line(
     numbers: &mut [u32],
 ) -> Result<usize, Malformed>
     ensures reads { λ r. ⌜ Reads-line (now (bytes .entry)) place letter (now (numbers .exit)) r ⌝ }
+    ensures fault { λ r. ⌜ refused r (Line-fault (now (bytes .entry)) place letter (length (now (numbers .entry)))) ⌝ }
 {
     if !has_byte(bytes, place, letter) {
         return Err(Malformed::Letter);
@@ -34,6 +37,7 @@ pub fn read_line(
 // The number behind one space, and the place behind it.
 fn spaced_number(bytes: &[u8], place: usize) -> Result<(u32, usize), Malformed>
     ensures reads { λ r. ⌜ Reads-spaced (now (bytes .entry)) place r ⌝ }
+    ensures fault { λ r. ⌜ refused r (Spaced-fault (now (bytes .entry)) place) ⌝ }
 {
     if !has_byte(bytes, place, b' ') {
         return Err(Malformed::NoSpace);

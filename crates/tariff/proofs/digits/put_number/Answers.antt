@@ -1,6 +1,6 @@
 use native.Mathlib.Omega.{arith}
 use mathlib.Core.Path.{_∙_, ap, sym}
-use Prim.Native.Nat.{ℕ, _+_}
+use Prim.Native.Nat.{ℕ}
 use Rattle.tariff.specs.Places.{written}
 use Rattle.tariff.specs.Texts.{padded}
 use Rattle.tariff.proofs.Padded.{decimal-padded}

@@ -1,5 +1,3 @@
-use mathlib.Core.Logic.{_⊎_}
-use mathlib.Core.Path.{_≡_}
 use Prim.Native.Nat.{ℕ, _<_, _≤_, _-_}
 use lib.ListN.{length, getD}
 use Rattle.tariff.specs.Reads.{Ends-field}

@@ -1,5 +1,5 @@
 use native.Mathlib.Omega.{arith}
-use Rattle.tariff.proofs.Trailing.{trailer-joined, trailer-apart}
+use Rattle.tariff.proofs.Trailing.{trailer-joined}
 use Rattle.tariff.proofs.trailer.read_trailer.Needs as need
 
 pub returns : need.returns
