@@ -6,3 +6,5 @@ pub mod Rows
 pub mod Strides
 pub mod Mixtures
 pub mod Lookups
+pub mod Reaches
+pub mod Steps

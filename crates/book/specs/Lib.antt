@@ -8,3 +8,4 @@ pub mod Declines
 pub mod Merging
 pub mod Listed
 pub mod Laid
+pub mod Theorems
