@@ -8,3 +8,4 @@ pub mod Mixtures
 pub mod Lookups
 pub mod Reaches
 pub mod Steps
+pub mod Layouts
