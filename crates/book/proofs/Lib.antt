@@ -1,4 +1,5 @@
 pub mod Somes
+pub mod Firsts
 pub mod Picks
 pub mod Descents
 pub mod Turns

@@ -9,12 +9,14 @@ use Rattle.reckoning.specs.Enclosing as Enclosing
 use Rattle.reckoning.specs.Operations.{Operations}
 use Rattle.std.specs.Options.{Cases}
 use Rattle.std.specs.declared.option.Option.{Option}
+use Rattle.std.specs.declared.option.Option.the-variants.{None}
 use Rattle.book.specs.declared.book.Book.{Book}
 use Rattle.book.specs.declared.frame.Frame.{Frame}
 use Rattle.book.specs.Declines.{too-many-levels}
 use Rattle.book.specs.Levels.{kept}
 use Rattle.book.specs.Listed.{listed}
 use Rattle.book.specs.Plain.{Entry, Plain, scenarios, losses, with-entry}
+use Rattle.book.specs.Refusals.{Sentences, first}
 use Rattle.book.specs.Values.{value}
 use Rattle.book.specs.Merging.{row-of}
 
@@ -83,3 +85,8 @@ pub record Framed (p : Plain) (frame : Frame) : Type 0 where
 abbrev pub Extends : {V : Type 0} → Operations V → Plain → Entry → Option ℕ → Places V → Type 0
 Extends ops p e r x =
     Cases r (too-many-levels p (e .loss) ≡ true) (λ n. (too-many-levels p (e .loss) ≡ false) × Lays ops (with-entry p e) n x)
+
+-- the call answers by all of its sentences, and where it is accepted H holds
+pub record Answers-as-listed (sentences : Sentences) (r : Option ℕ) (H : Type 0) : Type 0 where
+  pub answer : r ≡ first sentences
+  pub again : r ≡ None → H
