@@ -10,3 +10,4 @@ pub mod Lookups
 pub mod Reaches
 pub mod Steps
 pub mod Layouts
+pub mod Halvings

@@ -2,13 +2,14 @@
 use mathlib.Core.Path.{_≡_}
 use mathlib.Core.List.{List}
 use Prim.Native.Nat.{ℕ, _+_, _<_, _≤_}
-use lib.ListN.{length, getD}
+use lib.ListN.{length, take, getD}
 use Rattle.std.specs.shelf.Lists.{Has}
 use Rattle.reckoning.specs.Operations.{Operations}
 use Rattle.reckoning.specs.Outcomes.{Outcome, loss, outcomes}
 use Rattle.book.specs.Levels.{picked, kept}
 use Rattle.book.specs.Merging.{reached, only-zero, Flat}
 use Rattle.book.specs.Plain.{Plain, losses}
+use Rattle.book.specs.Told.{found-below}
 use Rattle.book.specs.Values.{value}
 
 -- each greater than those before it
@@ -43,3 +44,13 @@ Kept-by-merging = (ceiling : ℕ) (losses : List ℕ) → kept ceiling losses �
 -- values change only at levels that outcomes come to
 abbrev pub Values-are-steps : {V : Type 0} → Operations V → Type 0
 Values-are-steps m = (p : Plain) (s : ℕ) → Flat (reached only-zero (losses p)) (value m p s)
+
+-- the first m of n levels are those below x
+pub record Splits (levels : List ℕ) (n x m : ℕ) : Type 0 where
+  pub within : m ≤ n
+  pub below : (i : ℕ) → i < m → getD levels i 0 < x
+  pub above : (i : ℕ) → m ≤ i → i < n → x ≤ getD levels i 0
+
+-- on levels that rise, the look-up by halving finds how many lie below x
+abbrev pub Halving-splits : Type 0
+Halving-splits = (levels : List ℕ) (n x : ℕ) → n ≤ length levels → Rising (take n levels) → Splits levels n x (found-below levels n x)
