@@ -11,3 +11,4 @@ pub mod Reaches
 pub mod Steps
 pub mod Layouts
 pub mod Halvings
+pub mod Readings
