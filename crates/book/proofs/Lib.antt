@@ -1,4 +1,5 @@
 pub mod Somes
+pub mod Firsts
 pub mod Picks
 pub mod Descents
 pub mod Turns
@@ -6,3 +7,8 @@ pub mod Rows
 pub mod Strides
 pub mod Mixtures
 pub mod Lookups
+pub mod Reaches
+pub mod Steps
+pub mod Layouts
+pub mod Halvings
+pub mod Readings

@@ -16,7 +16,7 @@ use Rattle.reckoning.proofs.Roundings.{rounded-ranged}
 use Rattle.std.specs.shelf.Lists.{All}
 use Rattle.reckoning.proofs.Enclosures.{checked-ranged, checked-same}
 use Rattle.book.specs.Merging.{row-of}
-use Rattle.book.specs.Figures.{numbered, mixed, told-at}
+use Rattle.book.specs.Figures.{numbered, mixed, told-at, told-in}
 use Rattle.book.proofs.Mixtures.{shares-numbered}
 
 pub row-at : {V : Type 0} (p s : ℕ) (rows : List V) (i : ℕ) (d : V) → i < p → getD (row-of p s rows) i d ≡ getD rows (s * p + i) d
@@ -39,10 +39,6 @@ told-ranged row n = cond-both (eqb n 0) (pair 0 0) (checked (getD row (n - 1) (p
 -- what is told is in range, so it is read as it is
 pub told-same : (row : List Grains) (n : ℕ) → checked (told-at checked (pair 0 0) row n) ≡ told-at checked (pair 0 0) row n
 told-same row n = checked-same (told-at checked (pair 0 0) row n) (told-ranged row n)
-
--- the pair of a scenario, numbered from 1
-abbrev pub told-in : ℕ → List Grains → ℕ → ℕ → Grains
-told-in p rows n s = told-at checked (pair 0 0) (row-of p (s - 1) rows) n
 
 pub told-lower : (p : ℕ) (rows : List Grains) (n s : ℕ) → told-in p rows n s .lower ≤ 1000000000000
 told-lower p rows n s = let h = told-ranged (row-of p (s - 1) rows) n in omega arith

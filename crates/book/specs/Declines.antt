@@ -50,5 +50,12 @@ enter-early h p k w rs = (7, places-wrong h p) ∷ (8, loss-wrong w) ∷ (9, rat
 abbrev pub enter-sentences : Handed → Plain → ℕ → ℕ → List ℕ → Sentences
 enter-sentences h p k w rs = enter-early h p k w rs ++ (13, too-many-levels p w) ∷ []
 
+-- those of value where the places fit, and all
+abbrev pub value-late : Plain → ℕ → ℕ → Sentences
+value-late p s k = (14, outside 1 (scenarios p) s) ∷ (15, ltb (p .ceiling) k) ∷ []
+
+abbrev pub value-sentences : Handed → Plain → ℕ → ℕ → Sentences
+value-sentences h p s k = (7, places-wrong h p) ∷ value-late p s k
+
 abbrev pub chance-sentences : Handed → Plain → ℕ → ℕ → Sentences
 chance-sentences h p s k = (7, places-wrong h p) ∷ (14, outside 0 (scenarios p) s) ∷ (15, ltb (p .ceiling) k) ∷ []

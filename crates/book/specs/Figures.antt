@@ -5,8 +5,9 @@ use Prim.Native.Nat.{ℕ, suc, _-_}
 use lib.Dec.{eqb}
 use lib.ListN.{getD}
 use Rattle.reckoning.specs.declared.grains.Grains.{Grains}
-use Rattle.reckoning.specs.Enclosing.{bounds}
-use Rattle.reckoning.specs.Rounding.{rounded-out}
+use Rattle.reckoning.specs.Enclosing.{bounds, checked}
+use Rattle.reckoning.specs.Rounding.{pair, rounded-out}
+use Rattle.book.specs.Merging.{row-of}
 use Rattle.book.specs.Plain.{Plain}
 use Rattle.book.specs.Values.{value}
 
@@ -23,6 +24,14 @@ mixed shares g = rounded-out 1000000 (λ x. x .0) (λ x. g (x .1)) (numbered 1 s
 abbrev pub told-at : {V : Type 0} → (V → V) → V → List V → ℕ → V
 told-at reading nothing row n = cond (eqb n 0) nothing (reading (getD row (n - 1) nothing))
 
+-- what a row of pairs tells of scenario s, from 1
+abbrev pub told-in : ℕ → List Grains → ℕ → ℕ → Grains
+told-in p rows n s = told-at checked (pair 0 0) (row-of p (s - 1) rows) n
+
+-- the pair of scenario s, where 0 is the mix
+abbrev pub mixed-at : List ℕ → (ℕ → Grains) → ℕ → Grains
+mixed-at shares g s = cond (eqb s 0) (mixed shares g) (g s)
+
 -- the bounds of scenario s at level k, where 0 is the mix
 abbrev pub chance : Plain → ℕ → ℕ → Grains
-chance p s k = cond (eqb s 0) (mixed (p .shares) (λ i. value bounds p i k)) (value bounds p s k)
+chance p s k = mixed-at (p .shares) (λ i. value bounds p i k) s

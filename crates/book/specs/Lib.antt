@@ -3,8 +3,10 @@ pub mod Plain
 pub mod Refusals
 pub mod Levels
 pub mod Values
+pub mod Merging
 pub mod Figures
 pub mod Declines
-pub mod Merging
 pub mod Listed
 pub mod Laid
+pub mod Told
+pub mod Theorems

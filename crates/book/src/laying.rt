@@ -5,7 +5,9 @@ ghost use Prim.Native.Nat.{ℕ, _+_, _*_, _<_, _≤_};
 ghost use lib.ListN.{length, take, drop, set};
 ghost use Rattle.std.specs.Options.{Cases};
 ghost use Rattle.book.specs.Merging.{row-of};
-ghost use Rattle.book.specs.Laid.{places-of, Outside};
+ghost use Rattle.book.specs.Laid.{places-of, Outside, Lays, Framed, Extends};
+ghost use Rattle.book.specs.Listed.{entry-of};
+ghost use Rattle.book.specs.Plain.{Plain, opened};
 use crate::contract::Contract;
 use crate::frame::Frame;
 use crate::merging::merge_levels;
@@ -45,6 +47,7 @@ pub(crate) fn begin<R: Reckoning>(
 )
     requires { ⌜ 0 < length (now levels) ⌝ ∗ ⌜ scenarios * length (now levels) ≤ length (now bounds) ⌝ ∗ ⌜ scenarios * length (now levels) ≤ length (now values) ⌝ }
     ensures outside { λ _. ⌜ Outside scenarios (length (now (levels .entry))) 1 (places-of (now (levels .entry)) (now (bounds .entry)) (now (values .entry))) (places-of (now (levels .exit)) (now (bounds .exit)) (now (values .exit))) ⌝ }
+    ensures lays { λ _. ⌜ ((ceiling : ℕ) (shares : List ℕ) → length shares ≡ scenarios → Lays (R·Reckoning .operations) (opened (length (now (levels .entry))) ceiling shares) 1 (places-of (now (levels .exit)) (now (bounds .exit)) (now (values .exit)))) ⌝ }
 {
     let places = levels.len();
     begin_rows::<Bounds>(scenarios, places, bounds);
@@ -62,6 +65,7 @@ pub(crate) fn extend<R: Reckoning>(
 ) -> Option<usize>
     requires { ⌜ length (now levels) ≡ frame .places ⌝ ∗ ⌜ frame .scenarios * frame .places ≤ length (now bounds) ⌝ ∗ ⌜ frame .scenarios * frame .places ≤ length (now values) ⌝ }
     ensures outside { λ r. ⌜ Cases r (places-of (now (levels .exit)) (now (bounds .exit)) (now (values .exit)) ≡ places-of (now (levels .entry)) (now (bounds .entry)) (now (values .entry))) (λ n. (n ≤ frame .places) × Outside (frame .scenarios) (frame .places) n (places-of (now (levels .entry)) (now (bounds .entry)) (now (values .entry))) (places-of (now (levels .exit)) (now (bounds .exit)) (now (values .exit)))) ⌝ }
+    ensures lays { λ r. ⌜ ((p : Plain) → Framed p frame → Lays (R·Reckoning .operations) p (frame .len) (places-of (now (levels .entry)) (now (bounds .entry)) (now (values .entry))) → Extends (R·Reckoning .operations) p (entry-of (frame .scenarios) (now (contract .entry))) r (places-of (now (levels .exit)) (now (bounds .exit)) (now (values .exit)))) ⌝ }
 {
     let ceiling = frame.ceiling;
     let scenarios = frame.scenarios;

@@ -9,4 +9,5 @@ pub mod opening;
 pub mod refusal;
 pub mod shares;
 pub mod telling;
+pub mod theorems;
 mod valuing;

@@ -6,6 +6,7 @@ ghost use Prim.Native.Nat.{ℕ, _+_, _-_, _*_, _^_, _<_, _≤_};
 ghost use lib.ListN.{length, take, drop};
 ghost use Rattle.book.specs.Levels.{picked};
 ghost use Rattle.book.specs.Merging.{widened, Last};
+ghost use Rattle.book.specs.Told.{found-below};
 
 // One turn of the merge: the highest level left, and how many own and moved levels lie below it.
 #[derive(Clone, Copy)]
@@ -19,6 +20,7 @@ pub(crate) struct Step {
 pub(crate) fn below(levels: &[u32], len: usize, x: u32) -> usize
     requires { ⌜ len ≤ length (now levels) ⌝ }
     ensures within { λ r. ⌜ r ≤ len ⌝ }
+    ensures value { λ r. ⌜ r ≡ found-below (now (levels .entry)) len x ⌝ }
     ensures count { λ r. ⌜ ((S : ℕ → Bool) (n : ℕ) → x ≤ n → take len (now (levels .entry)) ≡ picked S n → r ≡ length (picked S x)) ⌝ }
 {
     let mut low = 0;

@@ -10,7 +10,7 @@ ghost use Rattle.reckoning.specs.Outcomes.{summed};
 ghost use Rattle.std.specs.Results as Results;
 ghost use Rattle.std.specs.declared.option.Option.the-variants.{None};
 ghost use Rattle.book.specs.Declines.{handed, short, shares-wrong, open-sentences};
-ghost use Rattle.book.specs.Laid.{places-of, state, Outside};
+ghost use Rattle.book.specs.Laid.{places-of, state, Outside, Holds};
 ghost use Rattle.book.specs.Listed.{shares-of, listed};
 ghost use Rattle.book.specs.Plain.{unopened, opened};
 ghost use Rattle.book.specs.Refusals.{first, refusal-of};
@@ -98,6 +98,7 @@ impl Book {
     ) -> Result<Opened, Refusal>
         ensures declines { λ r. ⌜ refusal-of r ≡ first (open-sentences (handed (length (now (levels .entry))) (length (now (bounds .entry))) (length (now (values .entry)))) ceiling (now (shares .entry))) ⌝ }
         ensures list { λ r. ⌜ (refusal-of r ≡ None → listed (now (self .exit)) ≡ opened (length (now (levels .entry))) ceiling (now (shares .entry))) ⌝ }
+        ensures holds { λ r. ⌜ (refusal-of r ≡ None → Holds (R·Reckoning .operations) (now (self .exit)) (places-of (now (levels .exit)) (now (bounds .exit)) (now (values .exit)))) ⌝ }
         ensures keeps { λ r. ⌜ (refusal-of r ≡ None → Outside (length (now (shares .entry))) (length (now (levels .entry))) 1 (places-of (now (levels .entry)) (now (bounds .entry)) (now (values .entry))) (places-of (now (levels .exit)) (now (bounds .exit)) (now (values .exit)))) ⌝ }
         ensures unchanged { λ r. ⌜ Results.Cases r (λ _. Unit {0}) (λ _. state (now (self .exit)) (now (levels .exit)) (now (bounds .exit)) (now (values .exit)) ≡ state (now (self .entry)) (now (levels .entry)) (now (bounds .entry)) (now (values .entry))) ⌝ }
     {

@@ -6,8 +6,8 @@ use Rattle.reckoning.specs.declared.grains.Grains.{Grains}
 use Rattle.reckoning.specs.Enclosing.{Ranged}
 use Rattle.reckoning.specs.Outcomes.{summed}
 use Rattle.reckoning.specs.Rounding.{pair}
-use Rattle.book.specs.Figures.{numbered, mixed}
-use Rattle.book.proofs.Lookups.{told-in, told-lower, told-upper, bounds-told, mixed-ranged}
+use Rattle.book.specs.Figures.{numbered, mixed, told-in}
+use Rattle.book.proofs.Lookups.{told-lower, told-upper, bounds-told, mixed-ranged}
 use Rattle.book.proofs.Mixtures.{shared-bound, turn, turn-bound, turn-end}
 use Rattle.book.proofs.Strides.{ends-within}
 use Rattle.book.proofs.telling.mix.Needs as need

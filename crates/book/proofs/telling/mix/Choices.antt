@@ -2,8 +2,7 @@ use mathlib.Core.Path.{_≡_}
 use Prim.Native.Nat.{_*_}
 use lib.ListN.{take}
 use Rattle.reckoning.specs.Outcomes.{summed}
-use Rattle.book.specs.Figures.{numbered}
-use Rattle.book.proofs.Lookups.{told-in}
+use Rattle.book.specs.Figures.{numbered, told-in}
 use Rattle.book.proofs.telling.mix.Given as given
 
 abbrev pub Inv-loop-s : given.InvT-loop-s
