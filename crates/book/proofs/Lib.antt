@@ -6,3 +6,6 @@ pub mod Rows
 pub mod Strides
 pub mod Mixtures
 pub mod Lookups
+pub mod Leasts
+pub mod Families
+pub mod Standings

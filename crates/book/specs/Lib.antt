@@ -8,3 +8,8 @@ pub mod Declines
 pub mod Merging
 pub mod Listed
 pub mod Laid
+pub mod Least
+pub mod Exact
+pub mod Pricing
+pub mod WellFormed
+pub mod Truth
