@@ -9,3 +9,5 @@ pub mod Lookups
 pub mod Leasts
 pub mod Families
 pub mod Standings
+pub mod Chances
+pub mod Reserves
