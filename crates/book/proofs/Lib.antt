@@ -11,3 +11,6 @@ pub mod Families
 pub mod Standings
 pub mod Chances
 pub mod Reserves
+pub mod Sums
+pub mod Premiums
+pub mod Truths
