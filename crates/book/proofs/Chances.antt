@@ -1,7 +1,6 @@
 -- Chances told enclose the exact ones, narrowly.
 use mathlib.Core.Path.{_≡_, sym, subst, _∙_}
 use mathlib.Core.List.{List, [], _∷_}
-use mathlib.Core.Bool.{Bool}
 use Prim.Native.Nat.{ℕ, _+_, _-_, _≤_}
 use native.Mathlib.Omega.{arith}
 use lib.Dec.{eqb}
@@ -14,7 +13,7 @@ use Rattle.reckoning.specs.Rounding.{Encloses}
 use Rattle.reckoning.specs.Enclosing.{bounds, Stands}
 use Rattle.reckoning.proofs.Enclosures.{blended-stands}
 use Rattle.reckoning.proofs.Roundings.{rounded-encloses, rounded-narrow}
-use Rattle.book.specs.Plain.{Entry, Plain, size, rates}
+use Rattle.book.specs.Plain.{Plain, size, rates}
 use Rattle.book.specs.Values.{value}
 use Rattle.book.specs.Figures.{numbered, mixed, chance}
 use Rattle.book.specs.Pricing.{mix-lower, mix-upper}

@@ -2,8 +2,8 @@
 use mathlib.Core.Path.{_≡_, refl, sym, ap, subst, _∙_}
 use mathlib.Core.Logic.{inl, inr}
 use mathlib.Core.List.{List, [], _∷_, _++_, append-nil, append-assoc}
-use mathlib.Core.Bool.{Bool, true, false, cond}
-use Prim.Native.Nat.{ℕ, zero, suc, _+_, _-_, _*_, _^_, _≤_, min}
+use mathlib.Core.Bool.{cond}
+use Prim.Native.Nat.{ℕ, zero, suc, _+_, _-_, _*_, _^_, _≤_}
 use native.Mathlib.Nat.{mul-le-mul-right, pow-suc}
 use native.Mathlib.Numerals.{add-one}
 use native.Mathlib.Omega.{arith}
@@ -14,7 +14,7 @@ use Rattle.std.specs.shelf.Lists.{All}
 use Rattle.std.proofs.shelf.Counted.{length-counting}
 use Rattle.std.proofs.shelf.Lists.{length-push, length-map}
 use Rattle.std.proofs.shelf.Tests.{cases-lt, cond-true, cond-false, le-leb, lt-leb}
-use Rattle.reckoning.specs.Outcomes.{loss, weight, outcomes, within, summed, total}
+use Rattle.reckoning.specs.Outcomes.{loss, weight, outcomes, summed, total}
 use Rattle.reckoning.specs.Rounding.{Encloses}
 use Rattle.reckoning.proofs.Weights.{total-either}
 use Rattle.book.specs.Plain.{Plain, size, losses, rates}
@@ -104,11 +104,17 @@ module _ (p : Plain) (formed : WellFormed p) where
       summed-same _ _ (λ x. ap (λ (v : ℕ). x .0 * v) (premium-above (x .1) d n)) (numbered 1 (p .shares))
       ∙ exchanged (λ x. x .0) (λ x. above (x .1)) (numbered 1 (p .shares)) (counting d n)
 
+  premium-levels-above : (d t : ℕ) → d ≤ t → premium-mix p d t ≡ summed above-mix (levels-of d t)
+  premium-levels-above d t l =
+      let end : d + (t - d) ≡ t = omega arith in
+      subst (λ (v : ℕ). premium-mix p d v ≡ summed above-mix (levels-of d t)) end (premium-above-mix d (t - d))
+
+  pub premium-levels : (d t : ℕ) → d ≤ t → premium-mix p d t ≡ summed (λ k. all-mix p - exact-mix p k) (levels-of d t)
+  premium-levels d t l = premium-levels-above d t l ∙ summed-same _ _ (λ k. omega (arith, above-exact-mix k)) (levels-of d t)
+
   pub layer-encloses : (d t : ℕ) → d ≤ t → Encloses (layer-low p d t) (layer-high p d t) (premium-mix p d t) (all-mix p)
   layer-encloses d t l =
-      let end : d + (t - d) ≡ t = omega arith in
-      let levels = subst (λ (v : ℕ). premium-mix p d v ≡ summed above-mix (levels-of d t)) end (premium-above-mix d (t - d)) in
-      subst (λ (v : ℕ). Encloses (layer-low p d t) (layer-high p d t) v (all-mix p)) (sym levels)
+      subst (λ (v : ℕ). Encloses (layer-low p d t) (layer-high p d t) v (all-mix p)) (sym (premium-levels-above d t l))
       (summed-encloses (λ k. 1000000000000 - mix-upper p k) (λ k. 1000000000000 - mix-lower p k) above-mix (all-mix p)
       (λ k. rest-encloses (mix-lower p k) (mix-upper p k) (exact-mix p k) (above-mix k) (all-mix p) (above-exact-mix k) (mix-encloses p formed k))
       (levels-of d t))

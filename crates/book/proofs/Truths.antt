@@ -1,6 +1,6 @@
 -- Every list that is well formed is true to its outcomes.
 use mathlib.Core.List.{List}
-use Prim.Native.Nat.{ℕ, _+_, _*_, _^_, _≤_}
+use Prim.Native.Nat.{ℕ, _+_, _^_, _≤_}
 use native.Mathlib.Nat.{one-le-pow}
 use native.Mathlib.Omega.{arith}
 use Rattle.reckoning.specs.Outcomes.{Family}
@@ -12,7 +12,7 @@ use Rattle.book.specs.Truth.{Figures-stand}
 use Rattle.book.proofs.Standings.{Meaning, value-stands}
 use Rattle.book.proofs.Chances.{bounds-stand, chance-encloses, chance-narrow, mix-encloses, mix-narrow}
 use Rattle.book.proofs.Reserves.{low-end-not-above, high-end-not-below, low-end-near}
-use Rattle.book.proofs.Premiums.{layer-encloses, layer-narrow}
+use Rattle.book.proofs.Premiums.{premium-levels, layer-encloses, layer-narrow}
 
 all-mix-some : (p : Plain) → 1 ≤ all-mix p
 all-mix-some p = let h : 1 ≤ 1000000 ^ size p = one-le-pow (size p) 1000000 (omega arith) in omega arith
@@ -35,5 +35,6 @@ figures-stand ops stands law p formed =
       reserve-not-below = λ c _. high-end-not-below n (all-mix p) wide (mix-lower p) (mix-upper p) (exact-mix p) some encloses narrow c;
       reserve-near = λ c k _. low-end-near n (all-mix p) wide (mix-lower p) (mix-upper p) (exact-mix p) some encloses narrow c k;
       layer-enclosed = λ d t layer. let l = layer .some in layer-encloses p formed d t (omega arith);
+      premium-levels = λ d t layer. let l = layer .some in premium-levels p formed d t (omega arith);
       layer-narrow = λ d t _. layer-narrow p formed d t;
     }

@@ -1,9 +1,7 @@
 -- Exact figures, over whole numbers: each is a sum of weights, to be read over all weight.
-use mathlib.Core.List.{List}
-use mathlib.Core.Bool.{Bool}
 use Prim.Native.Nat.{ℕ, _-_, _*_, _^_, min}
 use lib.Dec.{leb}
-use Rattle.reckoning.specs.Outcomes.{Family, Outcome, loss, weight, outcomes, within, summed, total}
+use Rattle.reckoning.specs.Outcomes.{Family, loss, weight, outcomes, within, summed, total}
 use Rattle.book.specs.declared.found.Found.{Found}
 use Rattle.book.specs.Plain.{Plain, size, losses, rates}
 use Rattle.book.specs.Figures.{numbered}

@@ -13,3 +13,4 @@ pub mod Exact
 pub mod Pricing
 pub mod WellFormed
 pub mod Truth
+pub mod Worked

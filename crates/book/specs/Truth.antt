@@ -3,16 +3,15 @@ use mathlib.Core.Path.{_≡_}
 use mathlib.Core.Logic.{_≢_}
 use mathlib.Core.List.{List}
 use Prim.Native.Nat.{ℕ, _+_, _-_, _*_, _<_, _≤_}
-use Rattle.reckoning.specs.Outcomes.{Family}
+use Rattle.reckoning.specs.Outcomes.{Family, summed}
 use Rattle.reckoning.specs.Operations.{Operations}
 use Rattle.reckoning.specs.Rounding.{Encloses}
 use Rattle.reckoning.specs.Enclosing.{bounds, Stands}
-use Rattle.book.specs.declared.found.Found.{Found}
 use Rattle.book.specs.declared.found.Found.the-variants.{At}
 use Rattle.book.specs.Plain.{Plain, size, scenarios, rates}
 use Rattle.book.specs.Values.{value}
 use Rattle.book.specs.Figures.{chance}
-use Rattle.book.specs.Pricing.{mix-lower, mix-upper, reserve-low, reserve-high, layer-low, layer-high}
+use Rattle.book.specs.Pricing.{mix-lower, mix-upper, reserve-low, reserve-high, levels-of, layer-low, layer-high}
 use Rattle.book.specs.Exact.{family, exact, exact-mix, all, all-mix, quantile, premium-mix}
 use Rattle.book.specs.Least.{NotAbove}
 use Rattle.book.specs.WellFormed.{WellFormed}
@@ -60,7 +59,9 @@ pub record True-to-outcomes {V : Type 0} (ops : Operations V) (stands : V → Li
   pub reserve-near : (c k : ℕ) → Confidence c → reserve-low p c ≢ reserve-high p c → reserve-low p c ≡ At k → Near (size p + 1) c (exact-mix p k) (all-mix p)
   -- the bounds of a layer enclose its exact premium
   pub layer-enclosed : (d t : ℕ) → Layer p d t → Encloses (layer-low p d t) (layer-high p d t) (premium-mix p d t) (all-mix p)
-  -- and differ, on each of its levels, by what the bounds of the mix may
+  -- which is what the mix weighs above each of its levels
+  pub premium-levels : (d t : ℕ) → Layer p d t → premium-mix p d t ≡ summed (λ k. all-mix p - exact-mix p k) (levels-of d t)
+  -- they differ, on each of its levels, by what the bounds of the mix may
   pub layer-narrow : (d t : ℕ) → Layer p d t → layer-high p d t ≤ layer-low p d t + (t - d) * (size p + 1)
 
 -- every list that a run can reach is true to its outcomes

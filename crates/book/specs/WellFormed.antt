@@ -1,6 +1,5 @@
 -- What every plain list of a run has.
 use mathlib.Core.Path.{_≡_}
-use mathlib.Core.List.{List}
 use Prim.Native.Nat.{ℕ, _≤_}
 use lib.ListN.{length}
 use Rattle.std.specs.shelf.Lists.{All}

@@ -1,6 +1,7 @@
 // What the figures of a book have to do with the outcomes of its contracts.
 ghost use Rattle.book.specs.Least.{Least-is-least};
 ghost use Rattle.book.specs.Truth.{Figures-stand};
+ghost use Rattle.book.specs.Worked.{Worked-cases-stand};
 use reckoning::reckoning::Reckoning;
 
 // The least level is found where there is one: the test holds there and at none below.
@@ -13,6 +14,13 @@ pub fn least_stands() -> bool
 // Values stand for the outcomes of no greater loss; chances, reserves and layers enclose the exact figures, narrowly.
 pub fn figures_stand<R: Reckoning>() -> bool
     ensures { λ _. ⌜ Figures-stand (R·Reckoning .operations) (R·Reckoning .stands) ⌝ }
+{
+    true
+}
+
+// Small books worked through have the figures that their table says.
+pub fn worked_cases_stand() -> bool
+    ensures { λ _. ⌜ Worked-cases-stand ⌝ }
 {
     true
 }
