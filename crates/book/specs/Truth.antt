@@ -64,6 +64,6 @@ pub record True-to-outcomes {V : Type 0} (ops : Operations V) (stands : V → Li
   -- they differ, on each of its levels, by what the bounds of the mix may
   pub layer-narrow : (d t : ℕ) → Layer p d t → layer-high p d t ≤ layer-low p d t + (t - d) * (size p + 1)
 
--- every list that a run can reach is true to its outcomes
+-- every well formed list is true to its outcomes
 abbrev pub Figures-stand : {V : Type 0} → Operations V → (V → List ℕ → Family → Type 0) → Type 0
 Figures-stand ops stands = (p : Plain) → WellFormed p → True-to-outcomes ops stands p

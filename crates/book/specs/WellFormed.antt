@@ -1,4 +1,4 @@
--- What every plain list of a run has.
+-- Well formed lists: shares, rates and a number of contracts as the calls admit them.
 use mathlib.Core.Path.{_≡_}
 use Prim.Native.Nat.{ℕ, _≤_}
 use lib.ListN.{length}

@@ -11,7 +11,7 @@ pub fn least_stands() -> bool
     true
 }
 
-// Values stand for the outcomes of no greater loss; chances, reserves and layers enclose the exact figures, narrowly.
+// In every well formed list values stand for the outcomes of no greater loss; chances, reserves and layers enclose the exact figures, narrowly.
 pub fn figures_stand<R: Reckoning>() -> bool
     ensures { λ _. ⌜ Figures-stand (R·Reckoning .operations) (R·Reckoning .stands) ⌝ }
 {
