@@ -12,3 +12,11 @@ pub mod Steps
 pub mod Layouts
 pub mod Halvings
 pub mod Readings
+pub mod Leasts
+pub mod Families
+pub mod Standings
+pub mod Chances
+pub mod Reserves
+pub mod Sums
+pub mod Premiums
+pub mod Truths

@@ -10,3 +10,9 @@ pub mod Listed
 pub mod Laid
 pub mod Told
 pub mod Theorems
+pub mod Least
+pub mod Exact
+pub mod Pricing
+pub mod WellFormed
+pub mod Truth
+pub mod Worked

@@ -2,6 +2,8 @@
 pub mod book;
 pub mod contract;
 pub mod entering;
+pub mod figures;
+pub mod found;
 mod frame;
 mod laying;
 mod merging;
