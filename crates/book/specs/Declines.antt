@@ -59,3 +59,18 @@ value-sentences h p s k = (7, places-wrong h p) ∷ value-late p s k
 
 abbrev pub chance-sentences : Handed → Plain → ℕ → ℕ → Sentences
 chance-sentences h p s k = (7, places-wrong h p) ∷ (14, outside 0 (scenarios p) s) ∷ (15, ltb (p .ceiling) k) ∷ []
+
+abbrev pub key-absent : Plain → ℕ → Bool
+key-absent p k = not (holds-key k (p .contracts))
+
+abbrev pub rerate-sentences : Handed → Plain → ℕ → List ℕ → Sentences
+rerate-sentences h p k rs = (7, places-wrong h p) ∷ (9, rates-wrong (scenarios p) rs) ∷ (10, key-absent p k) ∷ []
+
+abbrev pub strike-sentences : Handed → Plain → ℕ → Sentences
+strike-sentences h p k = (7, places-wrong h p) ∷ (10, key-absent p k) ∷ []
+
+abbrev pub reserve-sentences : Handed → Plain → ℕ → Sentences
+reserve-sentences h p c = (7, places-wrong h p) ∷ (16, outside 1 1000000 c) ∷ []
+
+abbrev pub layer-sentences : Handed → Plain → ℕ → ℕ → Sentences
+layer-sentences h p d t = (7, places-wrong h p) ∷ (17, not (ltb d t) || ltb (p .ceiling + 1) t) ∷ []

@@ -1,6 +1,6 @@
 -- The plain list: what a book is by the arguments of its calls alone.
 use mathlib.Core.List.{List, [], _∷_, _++_, map}
-use mathlib.Core.Bool.{Bool}
+use mathlib.Core.Bool.{Bool, cond}
 use Prim.Native.Nat.{ℕ, _-_}
 use lib.Dec.{eqb}
 use lib.ListN.{length, getD}
@@ -51,3 +51,17 @@ with-entry p e = record { ceiling = p .ceiling; shares = p .shares; places = p .
 
 abbrev pub entry : ℕ → ℕ → List ℕ → Entry
 entry k w rs = record { key = k; loss = w; rates = rs }
+
+-- without the contract of that key; the later ones move up
+abbrev pub without : ℕ → List Entry → List Entry
+without k [] = []
+without k (e ∷ es) = cond (same-key (e .key) k) es (e ∷ without k es)
+
+-- with other rates for the contract of that key, at its position
+abbrev pub re-rated : ℕ → List ℕ → List Entry → List Entry
+re-rated k rs [] = []
+re-rated k rs (e ∷ es) = cond (same-key (e .key) k) (entry (e .key) (e .loss) rs ∷ es) (e ∷ re-rated k rs es)
+
+-- with these contracts
+abbrev pub with-entries : Plain → List Entry → Plain
+with-entries p es = record { ceiling = p .ceiling; shares = p .shares; places = p .places; contracts = es }

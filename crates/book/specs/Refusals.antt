@@ -9,7 +9,7 @@ use Rattle.std.specs.declared.option.Option.the-variants.{Some, None}
 use Rattle.std.specs.declared.result.Result.{Result}
 use Rattle.std.specs.declared.result.Result.the-variants.{Ok, Err}
 use Rattle.book.specs.declared.refusal.Refusal.{Refusal}
-use Rattle.book.specs.declared.refusal.Refusal.the-variants.{Ceiling, Shares, Places, Loss, Rates, Present, Full, Levels, Scenario, Level}
+use Rattle.book.specs.declared.refusal.Refusal.the-variants.{Ceiling, Shares, Places, Loss, Rates, Absent, Present, Full, Levels, Scenario, Level, Confidence, Range}
 
 abbrev pub number-of : Refusal → ℕ
 number-of Ceiling = 5
@@ -17,11 +17,14 @@ number-of Shares = 6
 number-of Places = 7
 number-of Loss = 8
 number-of Rates = 9
+number-of Absent = 10
 number-of Present = 11
 number-of Full = 12
 number-of Levels = 13
 number-of Scenario = 14
 number-of Level = 15
+number-of Confidence = 16
+number-of Range = 17
 
 -- the number of a call's refusal, none where it is accepted
 abbrev pub refusal-of : {T : Type 0} → Result T Refusal → Option ℕ

@@ -15,6 +15,8 @@ pub enum Refusal {
     Loss,
     // The rates are not one a scenario, or one exceeds a million.
     Rates,
+    // The key to re-rate or strike is absent.
+    Absent,
     // The key to enter is present.
     Present,
     // The book has 256 contracts.
@@ -25,6 +27,10 @@ pub enum Refusal {
     Scenario,
     // The level is above the ceiling.
     Level,
+    // The confidence is not 1 to a million millionths.
+    Confidence,
+    // The layer does not begin below its end, or ends above the ceiling.
+    Range,
 }
 
 impl Refusal {
@@ -38,11 +44,14 @@ impl Refusal {
             Refusal::Places => 7,
             Refusal::Loss => 8,
             Refusal::Rates => 9,
+            Refusal::Absent => 10,
             Refusal::Present => 11,
             Refusal::Full => 12,
             Refusal::Levels => 13,
             Refusal::Scenario => 14,
             Refusal::Level => 15,
+            Refusal::Confidence => 16,
+            Refusal::Range => 17,
         }
     }
 }
