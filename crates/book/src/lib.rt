@@ -11,5 +11,7 @@ pub mod opening;
 pub mod refusal;
 pub mod shares;
 pub mod telling;
+#[cfg(test)]
+mod tests;
 pub mod theorems;
 mod valuing;
