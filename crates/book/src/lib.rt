@@ -11,7 +11,5 @@ pub mod opening;
 pub mod refusal;
 pub mod shares;
 pub mod telling;
-#[cfg(test)]
-mod tests;
 pub mod theorems;
 mod valuing;

@@ -1,8 +1,8 @@
 // The calls on small books, and on places that others wrote to.
 ghost use Prim.Native.Nat.{min, _≤_};
-use crate::book::Book;
-use crate::refusal::Refusal;
-use crate::refusal::RefusalDebug;
+use book::book::Book;
+use book::refusal::Refusal;
+use book::refusal::RefusalDebug;
 use reckoning::claims::Claims;
 use reckoning::claims::ClaimsReckoning;
 use reckoning::grains::Grains;
