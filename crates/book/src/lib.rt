@@ -8,6 +8,7 @@ mod frame;
 mod laying;
 mod merging;
 pub mod opening;
+mod rebuilding;
 pub mod refusal;
 pub mod shares;
 pub mod telling;
