@@ -1,21 +1,21 @@
 -- What stands at the place of a key, and what the list is without it or with other rates there.
 use mathlib.Core.Path.{_≡_, refl, sym, ap, subst, _∙_}
 use mathlib.Core.Logic.{inl, inr}
-use mathlib.Core.List.{List, [], _∷_, map}
+use mathlib.Core.List.{List, [], _∷_, _++_, map}
 use mathlib.Core.Bool.{Bool, true, false, cond}
 use Prim.Native.Nat.{ℕ, zero, suc, _+_, _<_, _≤_}
 use native.Mathlib.Numerals.{add-one}
 use native.Mathlib.Omega.{arith}
-use lib.ListN.{length, set, getD, drop}
+use lib.ListN.{length, set, getD, take, drop}
 use Rattle.std.specs.Options.{isSome}
 use Rattle.std.specs.declared.option.Option.{Option}
 use Rattle.std.specs.declared.option.Option.the-variants.{Some, None}
 use Rattle.std.specs.shelf.Lists.{removed}
-use Rattle.std.proofs.shelf.Lists.{length-map, getD-map, at-drop-more, at-drop-all}
+use Rattle.std.proofs.shelf.Lists.{length-map, getD-map, map-append, map-set, take-map, drop-map, at-drop-more, at-drop-all}
 use Rattle.std.proofs.shelf.Tests.{cases-bool, cond-true, cond-false, or-left, or-right, or-from}
 use Rattle.book.specs.declared.contract.Contract.{Contract}
 use Rattle.book.specs.Finding.{place-from, place-of}
-use Rattle.book.specs.Listed.{entry-of}
+use Rattle.book.specs.Listed.{millionths-of, entry-of}
 use Rattle.book.specs.Plain.{Entry, entry, same-key, holds-key, without, re-rated}
 
 -- the contract of key k stands at place n
@@ -105,3 +105,24 @@ module _ (k n : ℕ) (items : List Contract) where
 
   pub passed-all : (i : ℕ) → length items ≤ i → Passed i → None ≡ place-of k entries
   passed-all i end passed = sym (at-drop-all (place-from i k) entries i (omega (arith, length-map items (entry-of n)))) ∙ passed
+
+-- ---- what the changed contracts list
+pub struck-list : (k n i : ℕ) (items rest : List Contract) → rest ≡ removed items i → Some i ≡ place-of k (map (entry-of n) items) → map (entry-of n) rest ≡ without k (map (entry-of n) items)
+struck-list k n i items rest is found =
+    let f = entry-of n in
+    ap (map f) is
+    ∙ map-append f (take i items) (drop (suc i) items)
+    ∙ ap (λ (es : List Entry). es ++ map f (drop (suc i) items)) (sym (take-map f i items))
+    ∙ ap (λ (es : List Entry). take i (map f items) ++ es) (sym (drop-map f (suc i) items))
+    ∙ sym (found-stands k i (map f items) found .struck)
+
+pub rerated-list : (k n i : ℕ) (items : List Contract) (old new : Contract) (rs : List ℕ) → new .key ≡ old .key → new .loss .units ≡ old .loss .units → millionths-of (take n (new .rates)) ≡ rs →
+    i < length items → old ≡ getD items i old → Some i ≡ place-of k (map (entry-of n) items) → map (entry-of n) (set items i new) ≡ re-rated k rs (map (entry-of n) items)
+rerated-list k n i items old new rs same-key′ same-loss rates within is found =
+    let f = entry-of n in
+    let at : getD (map f items) i (f old) ≡ f old = getD-map f items i old (f old) within ∙ ap f (sym is) in
+    let now-is : f new ≡ entry (old .key) (old .loss .units) rs =
+    ap (λ (x : ℕ). entry x (new .loss .units) (f new .rates)) same-key′ ∙ ap (λ (x : ℕ). entry (old .key) x (f new .rates)) same-loss ∙ ap (λ (xs : List ℕ). entry (old .key) (old .loss .units) xs) rates in
+    map-set f items i new
+    ∙ ap (λ (e : Entry). set (map f items) i e) (now-is ∙ ap (λ (e : Entry). entry (e .key) (e .loss) rs) (sym at))
+    ∙ sym (found-stands k i (map f items) found .rerated rs (f old))

@@ -14,8 +14,8 @@ use Rattle.book.specs.Fitting.{Fits}
 use Rattle.book.specs.Laid.{Places, Rows-outside, Outside, Levels-hold, Lays}
 use Rattle.book.specs.Levels.{kept}
 use Rattle.book.specs.Listed.{entry-of}
-use Rattle.book.specs.Plain.{Entry, Plain, losses, opened, with-entry, with-entries}
-use Rattle.book.proofs.Subsets.{front-keeps-no-more}
+use Rattle.book.specs.Plain.{Entry, Plain, losses, opened, with-entry, without, re-rated, with-entries}
+use Rattle.book.proofs.Subsets.{front-keeps-no-more, without-keeps-no-more, losses-rerated}
 
 -- ---- what is outside more levels
 drop-later : {V : Type 0} (m n : ℕ) (xs ys : List V) → m ≤ n → drop m xs ≡ drop m ys → drop n xs ≡ drop n ys
@@ -78,3 +78,9 @@ module _ {V : Type 0} (ops : Operations V) (p : Plain) where
 -- ---- what fits
 pub held-fits : (p : Plain) (n : ℕ) (levels : List ℕ) → Levels-hold p n levels → n ≤ p .places → Fits p
 held-fits p n levels held inside = omega (arith, held .count)
+
+pub struck-fits : (p : Plain) (k : ℕ) → Fits p → Fits (with-entries p (without k (p .contracts)))
+struck-fits p k fits = omega (arith, without-keeps-no-more (p .ceiling) k (p .contracts))
+
+pub rerated-fits : (p : Plain) (k : ℕ) (rs : List ℕ) → Fits p → Fits (with-entries p (re-rated k rs (p .contracts)))
+rerated-fits p k rs fits = omega (arith, ap (λ (ws : List ℕ). length (kept (p .ceiling) ws)) (losses-rerated k rs (p .contracts)))

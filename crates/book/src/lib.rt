@@ -1,5 +1,6 @@
 // A loss book over lent places: its kept levels, and the values beside them.
 pub mod book;
+pub mod changing;
 pub mod contract;
 pub mod entering;
 pub mod figures;

@@ -8,7 +8,7 @@ use Rattle.book.specs.Laid.{Places, places-of, Outside}
 use Rattle.book.specs.Listed.{entry-of}
 use Rattle.book.specs.Plain.{with-entries}
 use Rattle.book.proofs.Rebuilds.{outside-more, outside-same, front-none, front-more, front-all, front-fits}
-use Rattle.book.proofs.rebuilding.rebuild.Needs as need
+use Rattle.book.proofs.rebuilding.lay_all.Needs as need
 
 pub loop-contract-holds : need.loop-contract-holds
 loop-contract-holds g c =

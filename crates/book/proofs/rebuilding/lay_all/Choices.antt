@@ -5,7 +5,7 @@ use Rattle.book.specs.Laid.{places-of, Outside, Framed}
 use Rattle.book.specs.Listed.{entry-of}
 use Rattle.book.specs.Plain.{Plain}
 use Rattle.book.proofs.Rebuilds.{Lays-front}
-use Rattle.book.proofs.rebuilding.rebuild.Given as given
+use Rattle.book.proofs.rebuilding.lay_all.Given as given
 
 abbrev pub Inv-loop-contract : given.InvT-loop-contract
 Inv-loop-contract g l =
