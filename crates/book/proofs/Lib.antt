@@ -16,6 +16,7 @@ pub mod Rebuilds
 pub mod Halvings
 pub mod Readings
 pub mod Leasts
+pub mod Founds
 pub mod Families
 pub mod Standings
 pub mod Chances

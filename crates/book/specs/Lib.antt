@@ -18,3 +18,4 @@ pub mod Truth
 pub mod Worked
 pub mod Finding
 pub mod Fitting
+pub mod Reserved

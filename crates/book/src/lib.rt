@@ -11,6 +11,7 @@ mod merging;
 pub mod opening;
 mod rebuilding;
 pub mod refusal;
+pub mod reserving;
 pub mod shares;
 pub mod telling;
 pub mod theorems;
