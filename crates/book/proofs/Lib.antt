@@ -1,5 +1,6 @@
 pub mod Somes
 pub mod Firsts
+pub mod Finds
 pub mod Picks
 pub mod Descents
 pub mod Turns
@@ -10,11 +11,14 @@ pub mod Strides
 pub mod Mixtures
 pub mod Lookups
 pub mod Reaches
+pub mod Subsets
 pub mod Steps
 pub mod Layouts
+pub mod Rebuilds
 pub mod Halvings
 pub mod Readings
 pub mod Leasts
+pub mod Founds
 pub mod Families
 pub mod Standings
 pub mod Chances

@@ -18,3 +18,6 @@ pub mod Pricing
 pub mod WellFormed
 pub mod Truth
 pub mod Worked
+pub mod Finding
+pub mod Fitting
+pub mod Reserved

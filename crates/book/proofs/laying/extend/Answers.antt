@@ -19,6 +19,7 @@ returns-then-merged-places g c = record {
       let f = c .args .frame in
       let count = counted-over (c .args .levels .now) (f .len) (f .ceiling) (c .units-loss .result) (c .args .contract .now .loss .units) (c .merged-len-merged .result) (c .units-loss .ensures) (c .merged-len-merged .ensures .turns) in
       lt-ltb (f .places) _ (omega arith);
+  grows = search needs;
   lays = λ p framed was.
       let f = c .args .frame in
       let e = entry-of (f .scenarios) (c .args .contract .now) in
@@ -53,6 +54,7 @@ returns g c = record {
           values = rows-over levels (f .len) (f .ceiling) w u n loss turns (g .R·Reckoning .operations) (f .places) rates _ (c .args .values .now) (c .merge-rows-2 .last .rows) are (c .merge-rows-2 .ensures .turned);
         },
       );
+  grows = search needs;
   lays = λ p framed was.
       let f = c .args .frame in
       let e = entry-of (f .scenarios) (c .args .contract .now) in

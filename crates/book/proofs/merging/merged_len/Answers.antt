@@ -25,12 +25,14 @@ loop-own-again c = (
       let d = c .descend-step .result in
       counted S (c .args .loss) (c .args .ceiling) (c .args .levels .now) (c .loop-own .own) (c .loop-own .moved) (k .0) r (omega arith) (c .loop-own .n) (d .top) (d .own) (d .moved) (k .2)
       (c .descend-step .ensures .next S (k .0) (omega arith) (r .owns) (r .moves)),
+  omega arith,
 )
 
 pub returns : need.returns
 returns c = record {
   within = omega arith;
   turns = let end = turns-end (c .args .levels .now) (c .loop-own .own) (c .loop-own .moved) (c .args .loss) (2 * c .args .len - c .loop-own .n) (omega arith) in let all = c .loop-own .inv .3 in omega arith;
+  grows = omega arith;
   count = λ S e.
       let k = c .loop-own .inv .4 S e in
       count-end S (c .args .loss) (c .args .ceiling) (c .args .levels .now) (c .loop-own .own) (c .loop-own .moved) (k .0) (k .1) (omega arith) (c .loop-own .n) (k .2) (omega arith);
@@ -43,4 +45,4 @@ loop-own-holds c =
     let moved : found-below levels len (c .args .ceiling + 1 - c .args .loss) ≡ c .below-moved .result = ap (found-below levels len) (sym (c .saturating-sub .ensures)) ∙ sym (c .below-moved .ensures .value) in
     let all : 2 * len ≡ 2 * len - 0 = omega arith in
     let same = ap (λ (m : ℕ). turns (2 * len) levels len m (c .args .loss)) moved ∙ ap (λ (f : ℕ). turns f levels len (c .below-moved .result) (c .args .loss)) all in
-    (omega arith, omega arith, omega arith, omega arith, search needs)
+    (omega arith, omega arith, omega arith, omega arith, search needs, omega arith)

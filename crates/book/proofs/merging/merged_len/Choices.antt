@@ -14,6 +14,7 @@ Inv-loop-own l =
     (l .own ≤ l .len) × (l .moved ≤ l .len) × (l .n + l .own + l .moved ≤ 2 * l .len)
     × (turns (2 * l .len) (l .levels) (l .len) (found-below (l .levels) (l .len) (l .ceiling + 1 - l .loss)) (l .loss) ≡ l .n + turns (2 * l .len - l .n) (l .levels) (l .own) (l .moved) (l .loss))
     × ((S : ℕ → Bool) → take (l .len) (l .levels) ≡ picked S (l .ceiling + 1) → Counting S (l .loss) (l .ceiling) (l .levels) (l .own) (l .moved) (l .n))
+    × (l .len ≤ l .n + l .own)
 
 abbrev pub μ-loop-own : given.MeasureT-loop-own
 μ-loop-own l = l .own + l .moved
