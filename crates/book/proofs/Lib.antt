@@ -4,6 +4,8 @@ pub mod Finds
 pub mod Picks
 pub mod Descents
 pub mod Turns
+pub mod Turnings
+pub mod Overlays
 pub mod Rows
 pub mod Strides
 pub mod Mixtures

@@ -19,6 +19,7 @@ use Rattle.book.specs.Some.{some}
 use Rattle.book.specs.Theorems.{Rising, All-at-most, Outcome-of, Kept-rise, Kept-under-ceiling, Kept-are-losses, Kept-by-merging}
 use Rattle.book.proofs.Picks.{picked-yes, rank-mono, select}
 use Rattle.book.proofs.Descents.{own-widened}
+use Rattle.book.proofs.Families.{Sized, outcomes-sized, loss-push}
 use Rattle.book.proofs.Somes.{some-append, some-at}
 
 -- ---- what is picked
@@ -87,27 +88,6 @@ reached-push S (v ∷ ws) w = reached-push (widened v S) ws w
 pub reached-zero : (S : ℕ → Bool) (ws : List ℕ) → S 0 ≡ true → reached S ws 0 ≡ true
 reached-zero S [] t = t
 reached-zero S (w ∷ ws) t = reached-zero (widened w S) ws (own-widened w S 0 t)
-
--- ---- what outcomes come to
-abbrev Sized : ℕ → Family → Type 0
-Sized n os = All (λ o. length o ≡ n) os
-
-extended-sized : (n : ℕ) (b : Bool) (os : Family) → Sized n os → Sized (suc n) (extended b os)
-extended-sized n b [] h = tt
-extended-sized n b (o ∷ os) h = (omega (arith, length-push o b, h .0), extended-sized n b os (h .1))
-
-outcomes-sized : (n : ℕ) → Sized n (outcomes n)
-outcomes-sized zero = (refl, tt)
-outcomes-sized (suc n) =
-    all-append (λ o. length o ≡ suc n) (extended false (outcomes n)) (extended true (outcomes n))
-    (extended-sized n false (outcomes n) (outcomes-sized n))
-    (extended-sized n true (outcomes n) (outcomes-sized n))
-
-loss-push : (ws : List ℕ) (o : Outcome) (w : ℕ) (b : Bool) → length o ≡ length ws → loss (ws ++ (w ∷ [])) (o ++ (b ∷ [])) ≡ loss ws o + lost w b
-loss-push [] [] w b e = omega arith
-loss-push [] (x ∷ o) w b e = absurd (omega arith)
-loss-push (v ∷ ws) [] w b e = absurd (omega arith)
-loss-push (v ∷ ws) (x ∷ o) w b e = omega (arith, loss-push ws o w b (omega arith))
 
 module _ (ws : List ℕ) (w k : ℕ) where
   -- the test of an outcome, and of one with a contract more

@@ -12,6 +12,8 @@ use Rattle.std.proofs.shelf.Lists.{drop-take, drop-drop, length-take, length-dr
 use Rattle.std.proofs.shelf.Parts.{take-putMid-below, drop-putMid, between-putMid}
 use Rattle.reckoning.specs.Operations.{Operations}
 use Rattle.book.specs.Merging.{row-of, Follows}
+use Rattle.book.specs.Told.{found-below}
+use Rattle.book.specs.Turned.{row-turned}
 
 pub ends-within : (i n p at len : ℕ) → at ≡ i * p → i < n → n * p ≤ len → at + p ≤ len
 ends-within i n p at len e l h =
@@ -61,6 +63,7 @@ stride-end p i n at rows old P e was =
     let here : at ≡ n * p = was .0 ∙ ap (λ (v : ℕ). v * p) e in
     (ap (λ (v : ℕ). drop v rows) (sym here) ∙ was .1 ∙ ap (λ (v : ℕ). drop v old) here, λ s l. was .2 s (omega arith))
 
--- what the merge of one row leaves: the values that follow, and the places past them as they were
+-- what the merge of one row leaves: the values that follow, the places past them as they were, and on any values those of the turns
 abbrev pub Merged-row : {V : Type 0} → Operations V → List ℕ → ℕ → ℕ → ℕ → ℕ → ℕ → List V → List V → Type 0
-Merged-row ops levels m n w r c old new = Follows ops levels m n w r c old new × (drop n new ≡ drop n old)
+Merged-row ops levels m n w r c old new =
+    Follows ops levels m n w r c old new × (drop n new ≡ drop n old) × (new ≡ row-turned ops levels w r n old m (found-below levels m (c + 1 - w)))

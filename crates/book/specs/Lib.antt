@@ -4,11 +4,13 @@ pub mod Refusals
 pub mod Levels
 pub mod Values
 pub mod Merging
+pub mod Turned
 pub mod Figures
 pub mod Declines
 pub mod Listed
 pub mod Laid
 pub mod Told
+pub mod Anyhow
 pub mod Theorems
 pub mod Least
 pub mod Exact

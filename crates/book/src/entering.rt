@@ -11,6 +11,7 @@ ghost use Rattle.std.specs.Vec.{made};
 ghost use Rattle.std.specs.Options as Options;
 ghost use Rattle.std.specs.Results as Results;
 ghost use Rattle.std.specs.declared.option.Option.the-variants.{Some, None};
+ghost use Rattle.book.specs.Anyhow.{Enters-over};
 ghost use Rattle.book.specs.Declines.{handed, places-wrong, rates-wrong, enter-early, enter-sentences};
 ghost use Rattle.book.specs.Finding.{place-of};
 ghost use Rattle.book.specs.Laid.{places-of, state, Outside, Room, Holds, Framed, Answers-as-listed};
@@ -153,10 +154,21 @@ impl Book {
         ensures declines { λ r. ⌜ Free-of 13 (first (enter-early (handed (length (now (levels .entry))) (length (now (bounds .entry))) (length (now (values .entry)))) (listed (now (self .entry))) key loss (now (rates .entry)))) (refusal-of r) ⌝ }
         ensures list { λ r. ⌜ (refusal-of r ≡ None → listed (now (self .exit)) ≡ with-entry (listed (now (self .entry))) (entry key loss (now (rates .entry)))) ⌝ }
         ensures holds { λ r. ⌜ (Holds (R·Reckoning .operations) (now (self .entry)) (places-of (now (levels .entry)) (now (bounds .entry)) (now (values .entry))) → Answers-as-listed (enter-sentences (handed (length (now (levels .entry))) (length (now (bounds .entry))) (length (now (values .entry)))) (listed (now (self .entry))) key loss (now (rates .entry))) (refusal-of r) (Holds (R·Reckoning .operations) (now (self .exit)) (places-of (now (levels .exit)) (now (bounds .exit)) (now (values .exit))))) ⌝ }
+        ensures over { λ r. ⌜ Enters-over (R·Reckoning .operations) (now (self .entry)) (now (self .exit)) loss (now (rates .entry)) (first (enter-early (handed (length (now (levels .entry))) (length (now (bounds .entry))) (length (now (values .entry)))) (listed (now (self .entry))) key loss (now (rates .entry)))) (refusal-of r) (places-of (now (levels .entry)) (now (bounds .entry)) (now (values .entry))) (places-of (now (levels .exit)) (now (bounds .exit)) (now (values .exit))) ⌝ }
         ensures keeps { λ r. ⌜ (refusal-of r ≡ None → Outside (scenarios (listed (now (self .entry)))) (length (now (levels .entry))) (now (self .exit) .kept) (places-of (now (levels .entry)) (now (bounds .entry)) (now (values .entry))) (places-of (now (levels .exit)) (now (bounds .exit)) (now (values .exit)))) ⌝ }
         ensures unchanged { λ r. ⌜ Results.Cases r (λ _. Unit {0}) (λ _. state (now (self .exit)) (now (levels .exit)) (now (bounds .exit)) (now (values .exit)) ≡ state (now (self .entry)) (now (levels .entry)) (now (bounds .entry)) (now (values .entry))) ⌝ }
     {
-        let contract = self.admit(key, loss, rates, levels.len(), bounds.len(), values.len())?;
+        let contract = match self.admit(
+            key,
+            loss,
+            rates,
+            levels.len(),
+            bounds.len(),
+            values.len(),
+        ) {
+            Ok(contract) => contract,
+            Err(refusal) => return Err(refusal),
+        };
         let Some(kept) = extend::<R>(self.frame(), &contract, levels, bounds, values) else {
             return Err(Refusal::Levels);
         };

@@ -7,6 +7,7 @@ ghost use lib.ListN.{length, take, drop};
 ghost use Rattle.book.specs.Levels.{picked};
 ghost use Rattle.book.specs.Merging.{widened, Last};
 ghost use Rattle.book.specs.Told.{found-below};
+ghost use Rattle.book.specs.Turned.{turned, turns, levels-turned};
 
 // One turn of the merge: the highest level left, and how many own and moved levels lie below it.
 #[derive(Clone, Copy)]
@@ -39,6 +40,7 @@ pub(crate) fn below(levels: &[u32], len: usize, x: u32) -> usize
 // The highest of the first `own` levels and of the first `moved` ones moved up by the loss.
 pub(crate) fn descend(levels: &[u32], own: usize, moved: usize, loss: u32) -> Step
     requires { ⌜ 0 < own ⌝ ∗ ⌜ own ≤ length (now levels) ⌝ ∗ ⌜ moved ≤ length (now levels) ⌝ }
+    ensures turn { λ r. ⌜ r ≡ turned (now (levels .entry)) own moved loss ⌝ }
     ensures falls { λ r. ⌜ r .own ≤ own ⌝ ∗ ⌜ r .moved ≤ moved ⌝ ∗ ⌜ r .own + r .moved < own + moved ⌝ ∗ ⌜ own ≤ r .own + 1 ⌝ }
     ensures next { λ r. ⌜ ((S : ℕ → Bool) (x : ℕ) → x ≤ 2 ^ 32 → take own (now (levels .entry)) ≡ picked S x → moved ≡ length (picked S (x - loss)) → Last (widened loss S) x (r .top) × (take (r .own) (now (levels .entry)) ≡ picked S (r .top)) × (r .moved ≡ length (picked S (r .top - loss)))) ⌝ }
 {
@@ -76,6 +78,7 @@ pub(crate) fn descend(levels: &[u32], own: usize, moved: usize, loss: u32) -> St
 pub(crate) fn merged_len(levels: &[u32], len: usize, loss: u32, ceiling: u32) -> usize
     requires { ⌜ len ≤ length (now levels) ⌝ ∗ ⌜ len ≤ 65536 ⌝ ∗ ⌜ ceiling ≤ 65535 ⌝ }
     ensures within { λ r. ⌜ r ≤ 2 * len ⌝ }
+    ensures turns { λ r. ⌜ r ≡ turns (2 * len) (now (levels .entry)) len (found-below (now (levels .entry)) len (ceiling + 1 - loss)) loss ⌝ }
     ensures grows { λ r. ⌜ len ≤ r ⌝ }
     ensures count { λ r. ⌜ ((S : ℕ → Bool) → take len (now (levels .entry)) ≡ picked S (ceiling + 1) → r ≡ length (picked (widened loss S) (ceiling + 1))) ⌝ }
 {
@@ -95,6 +98,7 @@ pub(crate) fn merged_len(levels: &[u32], len: usize, loss: u32, ceiling: u32) ->
 pub(crate) fn merge_levels(levels: &mut [u32], len: usize, merged: usize, loss: u32, ceiling: u32)
     requires { ⌜ len ≤ length (now levels) ⌝ ∗ ⌜ merged ≤ length (now levels) ⌝ ∗ ⌜ ceiling ≤ 65535 ⌝ }
     ensures rest { λ _. ⌜ drop merged (now (levels .exit)) ≡ drop merged (now (levels .entry)) ⌝ }
+    ensures turned { λ _. ⌜ now (levels .exit) ≡ levels-turned merged (now (levels .entry)) len (found-below (now (levels .entry)) len (ceiling + 1 - loss)) loss ⌝ }
     ensures merged { λ _. ⌜ ((S : ℕ → Bool) → take len (now (levels .entry)) ≡ picked S (ceiling + 1) → merged ≡ length (picked (widened loss S) (ceiling + 1)) → now (levels .exit) ≡ picked (widened loss S) (ceiling + 1) ++ drop merged (now (levels .entry))) ⌝ }
 {
     let mut own = len;

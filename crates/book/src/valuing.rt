@@ -2,11 +2,13 @@
 ghost use mathlib.Core.Path.{_≡_};
 ghost use mathlib.Core.Bool.{Bool, true};
 ghost use mathlib.Core.List.{List, _++_, map};
-ghost use Prim.Native.Nat.{ℕ, _+_, _*_, _<_, _≤_};
+ghost use Prim.Native.Nat.{ℕ, _+_, _-_, _*_, _<_, _≤_};
 ghost use lib.ListN.{length, take, drop, getD};
 ghost use Rattle.book.specs.Levels.{picked};
 ghost use Rattle.book.specs.Laid.{Rows-outside};
 ghost use Rattle.book.specs.Merging.{widened, Flat, Follows, row-of};
+ghost use Rattle.book.specs.Told.{found-below};
+ghost use Rattle.book.specs.Turned.{row-turned};
 ghost use Rattle.book.specs.Values.{entered};
 ghost use Rattle.book.specs.Listed.{millionths-of};
 use crate::merging::below;
@@ -27,6 +29,7 @@ pub(crate) fn merge_row<R: Reckoning>(
     requires { ⌜ len ≤ length (now levels) ⌝ ∗ ⌜ len ≤ length (now row) ⌝ ∗ ⌜ merged ≤ length (now row) ⌝ ∗ ⌜ ceiling ≤ 65535 ⌝ }
     ensures rest { λ _. ⌜ drop merged (now (row .exit)) ≡ drop merged (now (row .entry)) ⌝ }
     ensures merged { λ _. ⌜ Follows (R·Reckoning .operations) (now (levels .entry)) len merged loss (rate .millionths) ceiling (now (row .entry)) (now (row .exit)) ⌝ }
+    ensures turned { λ _. ⌜ now (row .exit) ≡ row-turned (R·Reckoning .operations) (now (levels .entry)) loss (rate .millionths) merged (now (row .entry)) len (found-below (now (levels .entry)) len (ceiling + 1 - loss)) ⌝ }
 {
     let mut own = len;
     let mut moved = below(levels, len, (ceiling + 1).saturating_sub(loss));
@@ -59,6 +62,7 @@ pub(crate) fn merge_rows<R: Reckoning>(
 )
     requires { ⌜ len ≤ length (now levels) ⌝ ∗ ⌜ len ≤ places ⌝ ∗ ⌜ merged ≤ places ⌝ ∗ ⌜ ceiling ≤ 65535 ⌝ ∗ ⌜ length (now rates) * places ≤ length (now rows) ⌝ }
     ensures outside { λ _. ⌜ Rows-outside (length (now (rates .entry))) places merged (now (rows .entry)) (now (rows .exit)) ⌝ }
+    ensures turned { λ _. ⌜ ((s : ℕ) → s < length (now (rates .entry)) → row-of places s (now (rows .exit)) ≡ row-turned (R·Reckoning .operations) (now (levels .entry)) loss (getD (millionths-of (now (rates .entry))) s 0) merged (row-of places s (now (rows .entry))) len (found-below (now (levels .entry)) len (ceiling + 1 - loss))) ⌝ }
     ensures each { λ _. ⌜ ((s : ℕ) → s < length (now (rates .entry)) → Follows (R·Reckoning .operations) (now (levels .entry)) len merged loss (getD (millionths-of (now (rates .entry))) s 0) ceiling (row-of places s (now (rows .entry))) (row-of places s (now (rows .exit)))) ⌝ }
 {
     let mut at = 0;

@@ -5,5 +5,3 @@ pub mod grains;
 pub mod loss;
 pub mod rate;
 pub mod reckoning;
-#[cfg(test)]
-mod tests;

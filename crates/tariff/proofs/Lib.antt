@@ -8,3 +8,4 @@ pub mod Trailing
 pub mod LinesPut
 pub mod LineWalks
 pub mod Tables
+pub mod Declined

@@ -7,8 +7,6 @@ pub mod number;
 pub mod reading;
 pub mod refusal;
 pub mod statement;
-#[cfg(test)]
-mod tests;
 pub mod text;
 pub mod trailer;
 mod writing;

@@ -7,12 +7,18 @@ use Rattle.std.proofs.shelf.Lists.{length-take}
 use Rattle.reckoning.specs.Enclosing as Enclosing
 use Rattle.book.specs.Listed.{millionths-of, entry-of}
 use Rattle.book.specs.Plain.{scenarios}
+use Rattle.std.proofs.shelf.Tests.{lt-ltb, le-ltb}
+use Rattle.book.proofs.Overlays.{counted-over, levels-over, rows-over}
 use Rattle.book.proofs.Layouts.{before, levels-are, too-many, few-enough, levels-merged, rows-merged}
 use Rattle.book.proofs.laying.extend.Needs as need
 
 pub returns-then-merged-places : need.returns-then-merged-places
 returns-then-merged-places g c = record {
   outside = search needs;
+  over =
+      let f = c .args .frame in
+      let count = counted-over (c .args .levels .now) (f .len) (f .ceiling) (c .units-loss .result) (c .args .contract .now .loss .units) (c .merged-len-merged .result) (c .units-loss .ensures) (c .merged-len-merged .ensures .turns) in
+      lt-ltb (f .places) _ (omega arith);
   grows = search needs;
   lays = λ p framed was.
       let f = c .args .frame in
@@ -28,6 +34,26 @@ returns-then-merged-places g c = record {
 pub returns : need.returns
 returns g c = record {
   outside = search needs;
+  over =
+      let f = c .args .frame in
+      let levels = c .args .levels .now in
+      let w = c .units-loss .result in
+      let u = c .args .contract .now .loss .units in
+      let n = c .merged-len-merged .result in
+      let loss = c .units-loss .ensures in
+      let turns = c .merged-len-merged .ensures .turns in
+      let count = counted-over levels (f .len) (f .ceiling) w u n loss turns in
+      let rates = take (f .scenarios - 0) (c .args .contract .now .rates) in
+      let all : f .scenarios ≡ f .scenarios - 0 = omega arith in
+      let are : entry-of (f .scenarios) (c .args .contract .now) .rates ≡ millionths-of rates = ap (λ (k : ℕ). millionths-of (take k (c .args .contract .now .rates))) all in (
+        le-ltb (f .places) _ (omega arith),
+        count,
+        record {
+          levels = levels-over levels (f .len) (f .ceiling) w u n loss turns (c .merge-levels .last .levels) (c .merge-levels .ensures .turned);
+          bounds = rows-over levels (f .len) (f .ceiling) w u n loss turns Enclosing.bounds (f .places) rates _ (c .args .bounds .now) (c .merge-rows .last .rows) are (c .merge-rows .ensures .turned);
+          values = rows-over levels (f .len) (f .ceiling) w u n loss turns (g .R·Reckoning .operations) (f .places) rates _ (c .args .values .now) (c .merge-rows-2 .last .rows) are (c .merge-rows-2 .ensures .turned);
+        },
+      );
   grows = search needs;
   lays = λ p framed was.
       let f = c .args .frame in

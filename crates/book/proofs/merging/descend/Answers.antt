@@ -4,6 +4,7 @@ use Prim.Native.Nat.{ℕ, _+_, _-_, _<_}
 use native.Mathlib.Omega.{arith}
 use lib.ListN.{getD, length, take}
 use borrow.Author.Needs.{needs}
+use Rattle.std.proofs.shelf.Ways.{tells}
 use Rattle.book.specs.Levels.{picked}
 use Rattle.book.proofs.Descents.{Left, alone, above, below, level, moved-within}
 use Rattle.book.proofs.merging.descend.Needs as need
@@ -11,12 +12,14 @@ use Rattle.book.proofs.merging.descend.Needs as need
 pub returns-then-moved-eq0 : need.returns-then-moved-eq0
 returns-then-moved-eq0 c = record {
   falls = search needs;
+  turn = grind (arith, tells);
   next = λ S x l e f. alone S (c .args .loss) x (c .args .levels .now) (c .args .own) (c .args .moved) (omega arith) (omega arith) e f (omega arith);
 }
 
 pub returns-then-a-b : need.returns-then-a-b
 returns-then-a-b c = record {
   falls = search needs;
+  turn = grind (arith, tells);
   next = λ S x l e f.
       let xs = c .args .levels .now in
       let w = c .args .loss in
@@ -32,6 +35,7 @@ returns-then-a-b c = record {
 pub returns-then-b-a : need.returns-then-b-a
 returns-then-b-a c = record {
   falls = search needs;
+  turn = grind (arith, tells);
   next = λ S x l e f.
       let xs = c .args .levels .now in
       let w = c .args .loss in
@@ -45,6 +49,7 @@ returns-then-b-a c = record {
 pub returns-else-b-a : need.returns-else-b-a
 returns-else-b-a c = record {
   falls = search needs;
+  turn = grind (arith, tells);
   next = λ S x l e f.
       let xs = c .args .levels .now in
       let w = c .args .loss in

@@ -4,12 +4,15 @@ use Prim.Native.Nat.{ℕ, _+_, _-_, _*_, _≤_}
 use lib.ListN.{take, length}
 use Rattle.book.specs.Levels.{picked}
 use Rattle.book.specs.Merging.{widened}
+use Rattle.book.specs.Told.{found-below}
+use Rattle.book.specs.Turned.{turns}
 use Rattle.book.proofs.Turns.{Counting}
 use Rattle.book.proofs.merging.merged_len.Given as given
 
 abbrev pub Inv-loop-own : given.InvT-loop-own
 Inv-loop-own l =
     (l .own ≤ l .len) × (l .moved ≤ l .len) × (l .n + l .own + l .moved ≤ 2 * l .len)
+    × (turns (2 * l .len) (l .levels) (l .len) (found-below (l .levels) (l .len) (l .ceiling + 1 - l .loss)) (l .loss) ≡ l .n + turns (2 * l .len - l .n) (l .levels) (l .own) (l .moved) (l .loss))
     × ((S : ℕ → Bool) → take (l .len) (l .levels) ≡ picked S (l .ceiling + 1) → Counting S (l .loss) (l .ceiling) (l .levels) (l .own) (l .moved) (l .n))
     × (l .len ≤ l .n + l .own)
 

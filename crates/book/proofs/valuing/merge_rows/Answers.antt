@@ -48,7 +48,8 @@ loop-rate-again g c =
     put-step p i at rows (c .args .rows .now) (c .merge-row .last .row)
     (λ s. Merged-row (a .operations) (c .args .levels .now) (c .args .len) (c .args .merged) (c .args .loss) (getD (millionths-of rates) s 0) (c .args .ceiling))
     h (c .merge-row .kept .row) (c .loop-rate .inv)
-    (subst (λ (r : ℕ). Follows (a .operations) (c .args .levels .now) (c .args .len) (c .args .merged) (c .args .loss) r (c .args .ceiling) (take (at + p - at) (drop at rows)) (c .merge-row .last .row)) rate (c .merge-row .ensures .merged), c .merge-row .ensures .rest)
+    (subst (λ (r : ℕ). Merged-row (a .operations) (c .args .levels .now) (c .args .len) (c .args .merged) (c .args .loss) r (c .args .ceiling) (take (at + p - at) (drop at rows)) (c .merge-row .last .row)) rate
+    (c .merge-row .ensures .merged, c .merge-row .ensures .rest, c .merge-row .ensures .turned))
 
 pub returns : need.returns
 returns g c =
@@ -57,4 +58,4 @@ returns g c =
     let e : c .loop-rate .rate-index ≡ length rates = omega arith in
     let r = stride-end (c .args .places) (c .loop-rate .rate-index) (length rates) (c .loop-rate .at) (c .loop-rate .rows) (c .args .rows .now)
     (λ s. Merged-row (a .operations) (c .args .levels .now) (c .args .len) (c .args .merged) (c .args .loss) (getD (millionths-of rates) s 0) (c .args .ceiling)) e (c .loop-rate .inv) in
-    record { outside = record { each = λ s h. r .1 s h .1; rest = r .0 }; each = λ s h. r .1 s h .0 }
+    record { outside = record { each = λ s h. r .1 s h .1; rest = r .0 }; turned = λ s h. r .1 s h .2; each = λ s h. r .1 s h .0 }

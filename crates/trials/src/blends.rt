@@ -1,13 +1,13 @@
 // Blends on small and on damaged operands.
-use crate::bounds::Bounds;
-use crate::bounds::BoundsReckoning;
-use crate::claims::Claims;
-use crate::claims::ClaimsReckoning;
-use crate::grains::Grains;
-use crate::grains::GrainsDebug;
-use crate::grains::GrainsPartialEq;
-use crate::rate::Rate;
-use crate::reckoning::Reckoning;
+use reckoning::bounds::Bounds;
+use reckoning::bounds::BoundsReckoning;
+use reckoning::claims::Claims;
+use reckoning::claims::ClaimsReckoning;
+use reckoning::grains::Grains;
+use reckoning::grains::GrainsDebug;
+use reckoning::grains::GrainsPartialEq;
+use reckoning::rate::Rate;
+use reckoning::reckoning::Reckoning;
 use std::test::*;
 
 #[test]

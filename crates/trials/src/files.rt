@@ -1,19 +1,19 @@
 // The file of a small book, read and written.
-use crate::fault::Malformed;
-use crate::fault::MalformedDebug;
-use crate::fault::MalformedPartialEq;
-use crate::fault::NumberFault;
-use crate::fault::NumberFaultDebug;
-use crate::fault::NumberFaultPartialEq;
-use crate::line::read_line;
-use crate::number::number;
-use crate::text::TooFew;
-use crate::text::TooFewDebug;
-use crate::text::TooFewPartialEq;
-use crate::text::level_line;
-use crate::text::refusal_line;
-use crate::trailer::read_trailer;
 use std::test::*;
+use tariff::fault::Malformed;
+use tariff::fault::MalformedDebug;
+use tariff::fault::MalformedPartialEq;
+use tariff::fault::NumberFault;
+use tariff::fault::NumberFaultDebug;
+use tariff::fault::NumberFaultPartialEq;
+use tariff::line::read_line;
+use tariff::number::number;
+use tariff::text::TooFew;
+use tariff::text::TooFewDebug;
+use tariff::text::TooFewPartialEq;
+use tariff::text::level_line;
+use tariff::text::refusal_line;
+use tariff::trailer::read_trailer;
 
 #[test]
 fn a_contract_line_is_read() -> Result<(), Fail> {
