@@ -4,4 +4,6 @@ mod blends;
 #[cfg(test)]
 mod books;
 #[cfg(test)]
+mod changes;
+#[cfg(test)]
 mod files;
