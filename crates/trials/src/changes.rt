@@ -1,4 +1,4 @@
-// Striking, re-rating and the reserve, on the worked book and on a full one.
+// Strike, re-rate and reserve on the worked book, and on places that others wrote to.
 use book::book::Book;
 use book::found::Found;
 use book::found::FoundDebug;
@@ -10,44 +10,109 @@ use reckoning::claims::ClaimsReckoning;
 use reckoning::grains::Grains;
 use reckoning::grains::GrainsDebug;
 use reckoning::grains::GrainsPartialEq;
+use std::alloc::Global;
 use std::test::*;
 
-const ALL: [u32; 1] = [1_000_000];
-
-fn exact(billions: u64) -> Grains {
-    let grains = billions.saturating_mul(1_000_000_000);
+fn exact(grains: u64) -> Grains {
     Grains {
         lower: grains,
         upper: grains,
     }
 }
 
+// Contracts 11, 12 and 13 of losses 3, 2 and 2.
+fn worked(
+    heap: Global,
+    levels: &mut [u32],
+    bounds: &mut [Grains],
+    values: &mut [Option<u16>],
+) -> Result<Book, Fail> {
+    let mut book = Book::new(heap)?;
+    book.open::<Claims>(6, &[1_000_000], levels, bounds, values)?;
+    book.enter::<Claims>(11, 3, &[200_000], levels, bounds, values)?;
+    book.enter::<Claims>(12, 2, &[500_000], levels, bounds, values)?;
+    book.enter::<Claims>(13, 2, &[100_000], levels, bounds, values)?;
+    Ok(book)
+}
+
 #[test]
-fn worked_book_changes(rt: LibcRuntime) -> Result<(), Fail> {
-    let mut book = Book::new(rt.alloc())?;
+fn striking_leaves_the_book_of_the_rest(rt: LibcRuntime) -> Result<(), Fail> {
     let mut levels = [9u32; 6];
     let mut bounds = [exact(7); 6];
-    let mut values = [None; 6];
-    book.open::<Claims>(6, &ALL, &mut levels, &mut bounds, &mut values)?;
-    book.enter::<Claims>(11, 3, &[200_000], &mut levels, &mut bounds, &mut values)?;
-    book.enter::<Claims>(12, 2, &[500_000], &mut levels, &mut bounds, &mut values)?;
-    book.enter::<Claims>(13, 2, &[100_000], &mut levels, &mut bounds, &mut values)?;
-    let even = book.reserve::<Claims>(850_000, &levels, &bounds, &values)?;
-    check_eq(even, (Found::At(3), Found::At(3)))?;
-    let more = book.reserve::<Claims>(850_001, &levels, &bounds, &values)?;
-    check_eq(more, (Found::At(4), Found::At(4)))?;
-    let most = book.reserve::<Claims>(990_001, &levels, &bounds, &values)?;
-    check_eq(most, (Found::Beyond, Found::Beyond))?;
-    let absent = book.strike::<Claims>(14, &mut levels, &mut bounds, &mut values);
-    check(matches!(absent, Err(Refusal::Absent)))?;
-    book.rerate::<Claims>(11, &[0], &mut levels, &mut bounds, &mut values)?;
-    check_eq(bounds[2], exact(950))?;
+    let mut values = [Some(7u16); 6];
+    let mut book = worked(rt.alloc(), &mut levels, &mut bounds, &mut values)?;
     book.strike::<Claims>(11, &mut levels, &mut bounds, &mut values)?;
     check_eq(book.levels_kept(), 3)?;
     check_eq(levels, [0, 2, 4, 4, 5, 9])?;
-    check_eq(bounds[0], exact(450))?;
-    check_eq(bounds[1], exact(950))?;
-    check_eq(bounds[2], exact(1_000))
+    check_eq(bounds[0], exact(450_000_000_000))?;
+    check_eq(bounds[1], exact(950_000_000_000))?;
+    check_eq(bounds[2], exact(1_000_000_000_000))?;
+    check_eq(bounds[3], exact(890_000_000_000))?;
+    check_eq(values[2], Some(2))?;
+    let again = book.strike::<Claims>(11, &mut levels, &mut bounds, &mut values);
+    check(matches!(again, Err(Refusal::Absent)))?;
+    book.enter::<Claims>(11, 3, &[200_000], &mut levels, &mut bounds, &mut values)?;
+    check_eq(levels, [0, 2, 3, 4, 5, 9])?;
+    check_eq(bounds[3], exact(890_000_000_000))
+}
+
+#[test]
+fn other_rates_keep_the_levels(rt: LibcRuntime) -> Result<(), Fail> {
+    let mut levels = [9u32; 6];
+    let mut bounds = [exact(7); 6];
+    let mut values = [Some(7u16); 6];
+    let mut book = worked(rt.alloc(), &mut levels, &mut bounds, &mut values)?;
+    book.rerate::<Claims>(11, &[0], &mut levels, &mut bounds, &mut values)?;
+    check_eq(levels, [0, 2, 3, 4, 5, 9])?;
+    check_eq(bounds[0], exact(450_000_000_000))?;
+    check_eq(bounds[2], exact(950_000_000_000))?;
+    check_eq(bounds[4], exact(1_000_000_000_000))?;
+    check_eq(
+        values,
+        [Some(0), Some(1), Some(1), Some(2), Some(2), Some(7)],
+    )?;
+    let two = book.rerate::<Claims>(99, &[0, 0], &mut levels, &mut bounds, &mut values);
+    check(matches!(two, Err(Refusal::Rates)))?;
+    let none = book.rerate::<Claims>(99, &[0], &mut levels, &mut bounds, &mut values);
+    check(matches!(none, Err(Refusal::Absent)))
+}
+
+#[test]
+fn reserve_is_the_least_level_that_reaches(rt: LibcRuntime) -> Result<(), Fail> {
+    let mut levels = [9u32; 6];
+    let mut bounds = [exact(7); 6];
+    let mut values = [Some(7u16); 6];
+    let book = worked(rt.alloc(), &mut levels, &mut bounds, &mut values)?;
+    check_eq(
+        book.reserve::<Claims>(850_000, &levels, &bounds, &values)?,
+        (Found::At(3), Found::At(3)),
+    )?;
+    check_eq(
+        book.reserve::<Claims>(850_001, &levels, &bounds, &values)?,
+        (Found::At(4), Found::At(4)),
+    )?;
+    check_eq(
+        book.reserve::<Claims>(990_001, &levels, &bounds, &values)?,
+        (Found::Beyond, Found::Beyond),
+    )?;
+    let none = book.reserve::<Claims>(0, &levels, &bounds, &values);
+    check(matches!(none, Err(Refusal::Confidence)))
+}
+
+#[test]
+fn a_rebuild_over_foreign_places_stays_inside(rt: LibcRuntime) -> Result<(), Fail> {
+    let mut levels = [9u32; 2];
+    let mut bounds = [exact(7); 2];
+    let mut values = [Some(7u16); 2];
+    let mut book = Book::new(rt.alloc())?;
+    book.open::<Claims>(6, &[1_000_000], &mut levels, &mut bounds, &mut values)?;
+    book.enter::<Claims>(1, 2, &[500_000], &mut levels, &mut bounds, &mut values)?;
+    levels = [6, 6];
+    book.enter::<Claims>(2, 1, &[500_000], &mut levels, &mut bounds, &mut values)?;
+    book.enter::<Claims>(3, 4, &[500_000], &mut levels, &mut bounds, &mut values)?;
+    book.strike::<Claims>(3, &mut levels, &mut bounds, &mut values)?;
+    check_eq(book.levels_kept(), 2)?;
+    check_eq(levels, [0, 2])
 }
 
 // Opens the book and enters the contracts 0 to 255, all but one.
@@ -58,7 +123,7 @@ fn fill_but(
     bounds: &mut [Grains],
     values: &mut [Option<u16>],
 ) -> Result<(), Fail> {
-    book.open::<Claims>(10, &ALL, levels, bounds, values)?;
+    book.open::<Claims>(10, &[1_000_000], levels, bounds, values)?;
     for key in 0..256u32 {
         if key != but {
             let rates = [key * 3_900];
