@@ -12,6 +12,7 @@ pub mod Steps
 pub mod Layouts
 pub mod Halvings
 pub mod Readings
+pub mod Stretches
 pub mod Leasts
 pub mod Families
 pub mod Standings

@@ -1,10 +1,12 @@
 // A loss book over lent places: its kept levels, and the values beside them.
 pub mod book;
+pub mod call;
 pub mod contract;
 pub mod entering;
 pub mod figures;
 pub mod found;
 mod frame;
+mod layering;
 mod laying;
 mod merging;
 pub mod opening;

@@ -145,7 +145,7 @@ impl Book {
     }
 
     // The bounds of a scenario, or for 0 of the mix, where `found` of the levels are not above the level asked for.
-    fn chance_at(&self, scenario: usize, found: usize, bounds: &[Grains]) -> Grains
+    pub(crate) fn chance_at(&self, scenario: usize, found: usize, bounds: &[Grains]) -> Grains
         requires { ⌜ found ≤ now self .places ⌝ ∗ ⌜ scenario ≤ now self .shares .count ⌝ ∗ ⌜ now self .shares .count * now self .places ≤ length (now bounds) ⌝ }
         ensures range { λ r. ⌜ Ranged r ⌝ }
         ensures value { λ r. ⌜ r ≡ mixed-at (shares-of (now (self .entry) .shares)) (told-in (now (self .entry) .places) (now (bounds .entry)) found) scenario ⌝ }
