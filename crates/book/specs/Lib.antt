@@ -16,3 +16,5 @@ pub mod Pricing
 pub mod WellFormed
 pub mod Truth
 pub mod Worked
+pub mod Runs
+pub mod Law

@@ -23,11 +23,11 @@ pub enum Call<'a> {
     // scenario, level
     ValueAt(u32, u32),
     // scenario or 0 for the mix, level
-    Chance(u32, u32),
+    ChanceAt(u32, u32),
     // confidence in millionths
-    Reserve(u32),
+    ReserveFor(u32),
     // from, to
-    Layer(u32, u32),
+    LayerOf(u32, u32),
 }
 
 // What a call answers.
