@@ -21,3 +21,5 @@ pub mod Reserves
 pub mod Sums
 pub mod Premiums
 pub mod Truths
+pub mod Formed
+pub mod Tellings
