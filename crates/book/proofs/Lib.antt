@@ -23,3 +23,4 @@ pub mod Premiums
 pub mod Truths
 pub mod Formed
 pub mod Tellings
+pub mod Runs
