@@ -6,12 +6,15 @@ use lib.ListN.{length}
 use denote.Ref.{now}
 use Rattle.std.specs.declared.option.Option.{Option}
 use Rattle.std.specs.declared.option.Option.the-variants.{Some, None}
+use Rattle.std.specs.declared.result.Result.{Result}
+use Rattle.std.specs.declared.result.Result.the-variants.{Ok, Err}
 use Rattle.reckoning.specs.Enclosing.{bounds}
 use Rattle.reckoning.specs.Operations.{Operations}
 use Rattle.book.specs.declared.call.Call.{Call}
 use Rattle.book.specs.declared.call.Call.the-variants.{Enter, ReRate, Strike, BoundsAt, ValueAt, ChanceAt, ReserveFor, LayerOf}
 use Rattle.book.specs.declared.call.Answer.{Answer}
 use Rattle.book.specs.declared.call.Answer.the-variants.{Done, Bounds, Value, Chance, Reserve, Layer, Refused}
+use Rattle.book.specs.declared.refusal.Refusal.{Refusal}
 use Rattle.book.specs.Declines.{Handed, open-sentences, enter-sentences, rerate-sentences, strike-sentences, value-sentences, chance-sentences, reserve-sentences, layer-sentences}
 use Rattle.book.specs.Figures.{chance}
 use Rattle.book.specs.Laid.{State, Holds, Outside}
@@ -87,6 +90,11 @@ number-of-answer (Chance a b) = None
 number-of-answer (Reserve a b) = None
 number-of-answer (Layer a b) = None
 number-of-answer (Refused e) = Some (number-of e)
+
+-- a call's result as an answer: a refusal, or what `told` makes of what it tells
+abbrev pub answered : {T V : Type 0} → (T → Answer V) → Result T Refusal → Answer V
+answered told (Ok x) = told x
+answered told (Err e) = Refused e
 
 -- a call answers rightly: declined exactly when the list declines it, by that number; accepted, it answers what is defined for the list
 pub record Right {V : Type 0} (ops : Operations V) (h : Handed) (p : Plain) (c : Call) (a : Answer V) : Type 0 where
