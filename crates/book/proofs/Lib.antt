@@ -1,5 +1,6 @@
 pub mod Somes
 pub mod Firsts
+pub mod Finds
 pub mod Picks
 pub mod Descents
 pub mod Turns
@@ -8,8 +9,10 @@ pub mod Strides
 pub mod Mixtures
 pub mod Lookups
 pub mod Reaches
+pub mod Subsets
 pub mod Steps
 pub mod Layouts
+pub mod Rebuilds
 pub mod Halvings
 pub mod Readings
 pub mod Stretches

@@ -18,3 +18,5 @@ pub mod Truth
 pub mod Worked
 pub mod Runs
 pub mod Law
+pub mod Finding
+pub mod Fitting

@@ -12,6 +12,7 @@ ghost use Rattle.std.specs.Options as Options;
 ghost use Rattle.std.specs.Results as Results;
 ghost use Rattle.std.specs.declared.option.Option.the-variants.{Some, None};
 ghost use Rattle.book.specs.Declines.{handed, places-wrong, rates-wrong, enter-early, enter-sentences};
+ghost use Rattle.book.specs.Finding.{place-of};
 ghost use Rattle.book.specs.Laid.{places-of, state, Outside, Room, Holds, Framed, Answers-as-listed};
 ghost use Rattle.book.specs.Listed.{millionths-of, entry-of, listed};
 ghost use Rattle.book.specs.Plain.{size, scenarios, same-key, holds-key, entry, with-entry};
@@ -39,7 +40,7 @@ fn is_same_key(a: u32, b: u32) -> bool
 }
 
 // The rates, or none where they are not one a scenario or one exceeds a million.
-fn read_rates(given: &[u32], scenarios: usize) -> Option<[Rate; 8]>
+pub(crate) fn read_rates(given: &[u32], scenarios: usize) -> Option<[Rate; 8]>
     requires { ⌜ scenarios ≤ 8 ⌝ }
     ensures { λ r. ⌜ Options.Cases r (rates-wrong scenarios (now (given .entry)) ≡ true) (λ rates. (rates-wrong scenarios (now (given .entry)) ≡ false) × (millionths-of (take scenarios rates) ≡ now (given .entry))) ⌝ }
 {
@@ -57,16 +58,24 @@ fn read_rates(given: &[u32], scenarios: usize) -> Option<[Rate; 8]>
 }
 
 impl Book {
+    // The place of the first contract of that key, from 0.
+    pub(crate) fn find(&self, key: u32) -> Option<usize>
+        ensures place { λ r. ⌜ r ≡ place-of key (listed (now (self .entry)) .contracts) ⌝ }
+        ensures within { λ r. ⌜ Options.Cases r (Unit {0}) (λ i. i < vec-len (now (self .entry) .contracts)) ⌝ }
+    {
+        for (i, contract) in self.contracts.iter().enumerate() {
+            if is_same_key(contract.key, key) {
+                return Some(i);
+            }
+        }
+        None
+    }
+
     // Whether a contract of that key is in the book.
     fn has_key(&self, key: u32) -> bool
         ensures { λ r. ⌜ r ≡ holds-key key (listed (now (self .entry)) .contracts) ⌝ }
     {
-        for contract in self.contracts.iter() {
-            if is_same_key(contract.key, key) {
-                return true;
-            }
-        }
-        false
+        self.find(key).is_some()
     }
 
     // Whether the places do not fit the book.
@@ -77,7 +86,7 @@ impl Book {
         places_short(levels, bounds, values, self.shares.count) || levels != self.places
     }
 
-    fn frame(&self) -> Frame
+    pub(crate) fn frame(&self) -> Frame
         ensures ceiling { λ r. ⌜ r .ceiling ≡ now (self .entry) .ceiling ⌝ }
         ensures scenarios { λ r. ⌜ r .scenarios ≡ now (self .entry) .shares .count ⌝ }
         ensures places { λ r. ⌜ r .places ≡ now (self .entry) .places ⌝ }

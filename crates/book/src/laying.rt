@@ -65,6 +65,7 @@ pub(crate) fn extend<R: Reckoning>(
 ) -> Option<usize>
     requires { ⌜ length (now levels) ≡ frame .places ⌝ ∗ ⌜ frame .scenarios * frame .places ≤ length (now bounds) ⌝ ∗ ⌜ frame .scenarios * frame .places ≤ length (now values) ⌝ }
     ensures outside { λ r. ⌜ Cases r (places-of (now (levels .exit)) (now (bounds .exit)) (now (values .exit)) ≡ places-of (now (levels .entry)) (now (bounds .entry)) (now (values .entry))) (λ n. (n ≤ frame .places) × Outside (frame .scenarios) (frame .places) n (places-of (now (levels .entry)) (now (bounds .entry)) (now (values .entry))) (places-of (now (levels .exit)) (now (bounds .exit)) (now (values .exit)))) ⌝ }
+    ensures grows { λ r. ⌜ Cases r (Unit {0}) (λ n. frame .len ≤ n) ⌝ }
     ensures lays { λ r. ⌜ ((p : Plain) → Framed p frame → Lays (R·Reckoning .operations) p (frame .len) (places-of (now (levels .entry)) (now (bounds .entry)) (now (values .entry))) → Extends (R·Reckoning .operations) p (entry-of (frame .scenarios) (now (contract .entry))) r (places-of (now (levels .exit)) (now (bounds .exit)) (now (values .exit)))) ⌝ }
 {
     let ceiling = frame.ceiling;

@@ -1,6 +1,7 @@
 // A loss book over lent places: its kept levels, and the values beside them.
 pub mod book;
 pub mod call;
+pub mod changing;
 pub mod contract;
 pub mod entering;
 pub mod figures;
@@ -10,6 +11,7 @@ mod layering;
 mod laying;
 mod merging;
 pub mod opening;
+mod rebuilding;
 pub mod refusal;
 pub mod shares;
 pub mod telling;

@@ -39,7 +39,7 @@ pub(crate) fn below(levels: &[u32], len: usize, x: u32) -> usize
 // The highest of the first `own` levels and of the first `moved` ones moved up by the loss.
 pub(crate) fn descend(levels: &[u32], own: usize, moved: usize, loss: u32) -> Step
     requires { ⌜ 0 < own ⌝ ∗ ⌜ own ≤ length (now levels) ⌝ ∗ ⌜ moved ≤ length (now levels) ⌝ }
-    ensures falls { λ r. ⌜ r .own ≤ own ⌝ ∗ ⌜ r .moved ≤ moved ⌝ ∗ ⌜ r .own + r .moved < own + moved ⌝ }
+    ensures falls { λ r. ⌜ r .own ≤ own ⌝ ∗ ⌜ r .moved ≤ moved ⌝ ∗ ⌜ r .own + r .moved < own + moved ⌝ ∗ ⌜ own ≤ r .own + 1 ⌝ }
     ensures next { λ r. ⌜ ((S : ℕ → Bool) (x : ℕ) → x ≤ 2 ^ 32 → take own (now (levels .entry)) ≡ picked S x → moved ≡ length (picked S (x - loss)) → Last (widened loss S) x (r .top) × (take (r .own) (now (levels .entry)) ≡ picked S (r .top)) × (r .moved ≡ length (picked S (r .top - loss)))) ⌝ }
 {
     let a = levels[own - 1];
@@ -76,6 +76,7 @@ pub(crate) fn descend(levels: &[u32], own: usize, moved: usize, loss: u32) -> St
 pub(crate) fn merged_len(levels: &[u32], len: usize, loss: u32, ceiling: u32) -> usize
     requires { ⌜ len ≤ length (now levels) ⌝ ∗ ⌜ len ≤ 65536 ⌝ ∗ ⌜ ceiling ≤ 65535 ⌝ }
     ensures within { λ r. ⌜ r ≤ 2 * len ⌝ }
+    ensures grows { λ r. ⌜ len ≤ r ⌝ }
     ensures count { λ r. ⌜ ((S : ℕ → Bool) → take len (now (levels .entry)) ≡ picked S (ceiling + 1) → r ≡ length (picked (widened loss S) (ceiling + 1))) ⌝ }
 {
     let mut own = len;

@@ -13,6 +13,7 @@ use Rattle.book.proofs.laying.extend.Needs as need
 pub returns-then-merged-places : need.returns-then-merged-places
 returns-then-merged-places g c = record {
   outside = search needs;
+  grows = search needs;
   lays = λ p framed was.
       let f = c .args .frame in
       let e = entry-of (f .scenarios) (c .args .contract .now) in
@@ -27,6 +28,7 @@ returns-then-merged-places g c = record {
 pub returns : need.returns
 returns g c = record {
   outside = search needs;
+  grows = search needs;
   lays = λ p framed was.
       let f = c .args .frame in
       let e = entry-of (f .scenarios) (c .args .contract .now) in

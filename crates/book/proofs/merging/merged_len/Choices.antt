@@ -11,6 +11,7 @@ abbrev pub Inv-loop-own : given.InvT-loop-own
 Inv-loop-own l =
     (l .own ≤ l .len) × (l .moved ≤ l .len) × (l .n + l .own + l .moved ≤ 2 * l .len)
     × ((S : ℕ → Bool) → take (l .len) (l .levels) ≡ picked S (l .ceiling + 1) → Counting S (l .loss) (l .ceiling) (l .levels) (l .own) (l .moved) (l .n))
+    × (l .len ≤ l .n + l .own)
 
 abbrev pub μ-loop-own : given.MeasureT-loop-own
 μ-loop-own l = l .own + l .moved
