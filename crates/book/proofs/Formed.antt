@@ -19,7 +19,7 @@ use Rattle.book.specs.declared.call.Call.{Call}
 use Rattle.book.specs.declared.call.Call.the-variants.{Enter, ReRate, Strike, BoundsAt, ValueAt, ChanceAt, ReserveFor, LayerOf}
 use Rattle.book.specs.Declines.{Handed, short, ceiling-wrong, shares-wrong, rates-wrong, places-wrong}
 use Rattle.book.specs.Plain.{Entry, Plain, size, scenarios, same-key, holds-key, entry, opened, without, re-rated}
-use Rattle.book.specs.Runs.{declines, declines-open, changed, unless, after-open, after, afters}
+use Rattle.book.specs.Runs.{declines, declines-open, changed, unless, after-open, after, afters, Sound}
 use Rattle.book.specs.Some.{some}
 use Rattle.book.specs.WellFormed.{Rated, WellFormed}
 
@@ -63,10 +63,6 @@ re-rated-length k rs (e ∷ es) =
     (λ _. ap suc (re-rated-length k rs es))
 
 -- ---- well formed, and the places fit
-pub record Sound (h : Handed) (p : Plain) : Type 0 where
-  pub formed : WellFormed p
-  pub fits : places-wrong h p ≡ false
-
 pub opened-sound : (h : Handed) (ceiling : ℕ) (ws : List ℕ) → declines-open h ceiling ws ≡ None → Sound h (opened (h .levels) ceiling ws)
 opened-sound h ceiling ws e =
     let ceilings = passed (ceiling-wrong ceiling) _ _ e in

@@ -20,9 +20,9 @@ use Rattle.book.specs.Law.{Tells-truth, Carried-out, Law}
 use Rattle.book.specs.Listed.{listed}
 use Rattle.book.specs.Merging.{row-of}
 use Rattle.book.specs.Plain.{Plain, scenarios, unopened, opened}
-use Rattle.book.specs.Runs.{declines-open, changed, unless, after-open, after, afters, number-of-answer, Right, count-kept, most-kept, One}
+use Rattle.book.specs.Runs.{declines-open, changed, unless, after-open, after, afters, number-of-answer, Right, count-kept, most-kept, Sound, One}
 use Rattle.book.specs.Truth.{Figures-stand}
-use Rattle.book.proofs.Formed.{Sound, opened-sound, afters-sound, afters-shares, after-opened}
+use Rattle.book.proofs.Formed.{opened-sound, afters-sound, afters-shares, after-opened}
 use Rattle.book.proofs.Layouts.{kept-none}
 use Rattle.book.proofs.Tellings.{sound-tells-truth}
 
@@ -115,26 +115,48 @@ module _ {V : Type 0} (ops : Operations V) (stands : V → List ℕ → Family �
   always-true : (p : Plain) (cs : List Call) → Sound h p → Tells-truth ops stands h (afters h p cs)
   always-true p cs sound = sound-tells-truth ops stands means h (afters h p cs) (afters-sound h p cs sound)
 
-  -- after the opening, before any call
-  carried-none : (ceiling : ℕ) (shares : List ℕ) (x y : State V) (old : List (Answer V)) → declines-open h ceiling shares ≡ None →
-      listed (y .book) ≡ opened (h .levels) ceiling shares → Holds ops (y .book) (y .places) → Outside (length shares) (h .levels) 1 (x .places) (y .places) →
-      Carried-out ops stands h (opened (h .levels) ceiling shares) [] x y old old
-  carried-none ceiling shares x y old accepted list held outside =
-      let p = opened (h .levels) ceiling shares in
-      record {
-        each-right = λ i c a l. absurd (omega arith);
-        always-true = λ i l. always-true p (take i []) (opened-sound h ceiling shares accepted);
-        list = list;
-        holds = held;
-        outside = subst (λ (n : ℕ). Outside (length shares) (h .levels) n (x .places) (y .places)) (ap length (sym (kept-none ceiling))) outside;
-        rest = refl;
-      }
+  -- before any call
+  pub carried-none : (p : Plain) (x : State V) (old : List (Answer V)) → Sound h p → listed (x .book) ≡ p → Holds ops (x .book) (x .places) → Carried-out ops stands h p [] x x old old
+  carried-none p x old sound list held = record {
+    each-right = λ i c a l. absurd (omega arith);
+    always-true = λ i l. always-true p (take i []) sound;
+    list = list;
+    holds = held;
+    outside = outside-same (scenarios p) (h .levels) (count-kept p) (x .places);
+    rest = refl;
+  }
 
+  -- from an earlier state: places outside n levels are those that the run found, and the list keeps as many
+  carried-from : (p : Plain) (calls : List Call) (x y z : State V) (old new : List (Answer V)) (n : ℕ) → n ≤ count-kept p → Outside (scenarios p) (h .levels) n (x .places) (y .places) →
+      Carried-out ops stands h p calls y z old new → Carried-out ops stands h p calls x z old new
+  carried-from p calls x y z old new n few outside run = record {
+    each-right = run .each-right;
+    always-true = run .always-true;
+    list = run .list;
+    holds = run .holds;
+    outside =
+        outside-on (scenarios p) (h .levels) (most-kept h p calls) (x .places) (y .places) (z .places)
+        (outside-more (scenarios p) (h .levels) n (most-kept h p calls) (x .places) (y .places) (omega (arith, most-kept-first h p calls)) outside)
+        (run .outside);
+    rest = run .rest;
+  }
+
+  -- from the state before an accepted opening
+  pub law-opened : (ceiling : ℕ) (shares : List ℕ) (calls : List Call) (x y z : State V) (old new : List (Answer V)) → declines-open h ceiling shares ≡ None →
+      listed (y .book) ≡ opened (h .levels) ceiling shares → Outside (length shares) (h .levels) 1 (x .places) (y .places) →
+      Carried-out ops stands h (listed (y .book)) calls y z old new → Carried-out ops stands h (after-open h unopened ceiling shares) calls x z old new
+  law-opened ceiling shares calls x y z old new accepted list outside run =
+      let one : 1 ≤ count-kept (opened (h .levels) ceiling shares) = omega (arith, ap length (kept-none ceiling)) in
+      subst (λ (p : Plain). Carried-out ops stands h p calls x z old new) (sym (after-opened h unopened ceiling shares accepted))
+      (carried-from (opened (h .levels) ceiling shares) calls x y z old new 1 one outside (subst (λ (p : Plain). Carried-out ops stands h p calls y z old new) list run))
+
+  -- after the opening, before any call
   pub law-none : (ceiling : ℕ) (shares : List ℕ) (x y : State V) (old : List (Answer V)) → declines-open h ceiling shares ≡ None →
       listed (y .book) ≡ opened (h .levels) ceiling shares → Holds ops (y .book) (y .places) → Outside (length shares) (h .levels) 1 (x .places) (y .places) →
       Carried-out ops stands h (after-open h unopened ceiling shares) [] x y old old
   law-none ceiling shares x y old accepted list held outside =
-      subst (λ (p : Plain). Carried-out ops stands h p [] x y old old) (sym (after-opened h unopened ceiling shares accepted)) (carried-none ceiling shares x y old accepted list held outside)
+      law-opened ceiling shares [] x y y old old accepted list outside
+      (carried-none (listed (y .book)) y old (subst (Sound h) (sym list) (opened-sound h ceiling shares accepted)) refl held)
 
   -- one call more, at place i
   module _ (p : Plain) (sound : Sound h p) (calls : List Call) (x y z : State V) (old new : List (Answer V)) (i : ℕ) (c : Call) (a : Answer V)

@@ -18,10 +18,10 @@ use Rattle.book.specs.Figures.{chance}
 use Rattle.book.specs.Law.{Tells-truth, Runs-tell-truth}
 use Rattle.book.specs.Plain.{Plain, scenarios, unopened, opened}
 use Rattle.book.specs.Pricing.{mix-lower, mix-upper, reserve-low, reserve-high, layer-low, layer-high}
-use Rattle.book.specs.Runs.{declines, afters}
+use Rattle.book.specs.Runs.{declines, afters, Sound}
 use Rattle.book.specs.Truth.{Inside, Confidence, Layer, Figures-stand}
 use Rattle.book.specs.Values.{value}
-use Rattle.book.proofs.Formed.{Sound, opened-sound, afters-sound, after-opened}
+use Rattle.book.proofs.Formed.{opened-sound, afters-sound, after-opened}
 
 -- the first sentence does not hold, nor a later one
 passes : (t : Bool) (n : ℕ) (rest : Option ℕ) → t ≡ false → rest ≡ None → cond t (Some n) rest ≡ None

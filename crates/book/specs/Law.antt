@@ -65,7 +65,7 @@ Runs-tell-truth ops stands =
     (h : Handed) (ceiling : ℕ) (shares : List ℕ) (calls : List Call) → declines-open h ceiling shares ≡ None → Tells-truth ops stands h (afters h (after-open h unopened ceiling shares) calls)
 
 -- ---- a run
--- calls carried out in turn on a book of the list p: x is the state before the opening and y the state after them all, old and new are the places of the answers
+-- calls carried out in turn on a book of the list p: x is the state before them and y the state after them, old and new are the places of the answers
 pub record Carried-out {V : Type 0} (ops : Operations V) (stands : V → List ℕ → Family → Type 0) (h : Handed) (p : Plain) (calls : List Call) (x y : State V) (old new : List (Answer V)) : Type 0 where
   -- each call is declined exactly when the list as it stood before the call declines it, and by that number; an accepted one answers what is defined for that list
   pub each-right : (i : ℕ) (c : Call) (a : Answer V) → i < length calls → Right ops h (afters h p (take i calls)) (getD calls i c) (getD new i a)

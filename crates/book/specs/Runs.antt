@@ -1,6 +1,7 @@
 -- The plain list under calls: when it declines one, what it answers, what is left of it.
 use mathlib.Core.Path.{_≡_}
 use mathlib.Core.List.{List, [], _∷_}
+use mathlib.Core.Bool.{false}
 use Prim.Native.Nat.{ℕ, max}
 use lib.ListN.{length}
 use denote.Ref.{now}
@@ -15,7 +16,7 @@ use Rattle.book.specs.declared.call.Call.the-variants.{Enter, ReRate, Strike, 
 use Rattle.book.specs.declared.call.Answer.{Answer}
 use Rattle.book.specs.declared.call.Answer.the-variants.{Done, Bounds, Value, Chance, Reserve, Layer, Refused}
 use Rattle.book.specs.declared.refusal.Refusal.{Refusal}
-use Rattle.book.specs.Declines.{Handed, open-sentences, enter-sentences, rerate-sentences, strike-sentences, value-sentences, chance-sentences, reserve-sentences, layer-sentences}
+use Rattle.book.specs.Declines.{Handed, places-wrong, open-sentences, enter-sentences, rerate-sentences, strike-sentences, value-sentences, chance-sentences, reserve-sentences, layer-sentences}
 use Rattle.book.specs.Figures.{chance}
 use Rattle.book.specs.Laid.{State, Holds, Outside}
 use Rattle.book.specs.Levels.{kept}
@@ -24,6 +25,7 @@ use Rattle.book.specs.Plain.{Plain, scenarios, losses, entry, opened, with-ent
 use Rattle.book.specs.Pricing.{reserve-low, reserve-high, layer-low, layer-high}
 use Rattle.book.specs.Refusals.{number-of, Sentences, first}
 use Rattle.book.specs.Values.{value}
+use Rattle.book.specs.WellFormed.{WellFormed}
 
 -- the sentences of a call, one table each
 abbrev pub sentences : Handed → Plain → Call → Sentences
@@ -108,6 +110,11 @@ count-kept p = length (kept (p .ceiling) (losses p))
 abbrev pub most-kept : Handed → Plain → List Call → ℕ
 most-kept h p [] = count-kept p
 most-kept h p (c ∷ cs) = max (count-kept p) (most-kept h (after h p c) cs)
+
+-- a list that a run can reach: it is well formed, and the places fit it
+pub record Sound (h : Handed) (p : Plain) : Type 0 where
+  pub formed : WellFormed p
+  pub fits : places-wrong h p ≡ false
 
 -- what one call does to a book and its places, x before it and y after it
 pub record One {V : Type 0} (ops : Operations V) (h : Handed) (x y : State V) (c : Call) (a : Answer V) : Type 0 where

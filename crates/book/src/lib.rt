@@ -13,6 +13,7 @@ mod merging;
 pub mod opening;
 mod rebuilding;
 pub mod refusal;
+pub mod running;
 pub mod shares;
 pub mod telling;
 pub mod theorems;
