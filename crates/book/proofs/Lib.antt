@@ -17,6 +17,7 @@ pub mod Halvings
 pub mod Readings
 pub mod Stretches
 pub mod Leasts
+pub mod Founds
 pub mod Families
 pub mod Standings
 pub mod Chances

@@ -54,7 +54,7 @@ module _ {V : Type 0} (ops : Operations V) (p : Plain) (m : ℕ) (levels : List 
   pub levels-picked : take m levels ≡ picked (reached only-zero (losses p)) (p .ceiling + 1)
   levels-picked = held .each ∙ kept-by-merging (p .ceiling) (losses p)
 
-  some-level : (k : ℕ) → 0 < length (picked (reached only-zero (losses p)) (k + 1))
+  pub some-level : (k : ℕ) → 0 < length (picked (reached only-zero (losses p)) (k + 1))
   some-level k =
       let S = reached only-zero (losses p) in
       let m = rank-mono S 1 (k + 1) (omega arith) in

@@ -213,6 +213,12 @@ module _ {V : Type 0} (ops : Operations V) (stands : V → List ℕ → Family �
       rest = rest-more;
     }
 
+  -- the same where the call was handed as many places
+  pub law-step : (p : Plain) → Sound h p → (calls : List Call) (x y z : State V) (old new : List (Answer V)) (i : ℕ) (c : Call) (a : Answer V) →
+      i < length calls → i < length new → c ≡ getD calls i c → Carried-out ops stands h p (take i calls) x y old new → (k : Handed) → k ≡ h → One ops k y z c a →
+      Carried-out ops stands h p (take (i + 1) calls) x z old (set new i a)
+  law-step p sound calls x y z old new i c a l room at law k same one = law-more p sound calls x y z old new i c a l room at law (subst (λ (q : Handed). One ops q y z c a) same one)
+
 -- ---- the law, from the opening and the calls
 module _ {V : Type 0} (ops : Operations V) (stands : V → List ℕ → Family → Type 0) (h : Handed) (ceiling : ℕ) (shares : List ℕ) (refusal : Option ℕ) (is : refusal ≡ declines-open h ceiling shares) where
   pub law-declined : (n : ℕ) (calls : List Call) (x y : State V) (old new : List (Answer V)) → refusal ≡ Some n → y ≡ x → new ≡ old → Law ops stands h ceiling shares refusal calls x y old new
@@ -230,3 +236,14 @@ module _ {V : Type 0} (ops : Operations V) (stands : V → List ℕ → Family �
     unanswered = λ n declined. let z : _≡_ {A = ℕ} 0 1 = cc in absurd (omega arith);
     run = λ _. run;
   }
+
+-- an accepted opening, and then calls that were handed as many places
+pub law-run : {V : Type 0} (ops : Operations V) (stands : V → List ℕ → Family → Type 0) (means : Figures-stand ops stands) (h : Handed) (ceiling : ℕ) (shares : List ℕ) (calls : List Call) (x y z : State V) (old new : List (Answer V)) →
+    None ≡ declines-open h ceiling shares → listed (y .book) ≡ opened (h .levels) ceiling shares → Holds ops (y .book) (y .places) → Outside (length shares) (h .levels) 1 (x .places) (y .places) →
+    (k : Handed) → k ≡ h → (Sound k (listed (y .book)) → Holds ops (y .book) (y .places) → Carried-out ops stands k (listed (y .book)) calls y z old new) →
+    Law ops stands h ceiling shares None calls x z old new
+law-run {V} ops stands means h ceiling shares calls x y z old new accepted list held outside k same carried =
+    let sound : Sound h (listed (y .book)) = subst (Sound h) (sym list) (opened-sound h ceiling shares (sym accepted)) in
+    let run : Carried-out ops stands h (listed (y .book)) calls y z old new =
+    subst (λ (q : Handed). Carried-out ops stands q (listed (y .book)) calls y z old new) same (carried (subst (λ (q : Handed). Sound q (listed (y .book))) (sym same) sound) held) in
+    law-accepted ops stands h ceiling shares None accepted calls x z old new refl (law-opened ops stands means h ceiling shares calls x y z old new (sym accepted) list outside run)

@@ -20,3 +20,4 @@ pub mod Runs
 pub mod Law
 pub mod Finding
 pub mod Fitting
+pub mod Reserved

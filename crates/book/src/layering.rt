@@ -46,7 +46,7 @@ impl Book {
     }
 
     // The bounds of the layer's premium, in 10^-12 of a unit of loss.
-    pub(crate) fn layer<R: Reckoning>(
+    pub fn layer<R: Reckoning>(
         &self,
         from: u32,
         to: u32,

@@ -1,7 +1,7 @@
 // Carrying out calls: one, and a whole run.
 ghost use mathlib.Core.Path.{_≡_};
-ghost use Prim.Native.Nat.{min};
-ghost use lib.ListN.{length, take};
+ghost use Prim.Native.Nat.{_<_, min};
+ghost use lib.ListN.{length, take, set};
 ghost use Rattle.std.specs.Vec.{made};
 ghost use Rattle.book.specs.Declines.{handed};
 ghost use Rattle.book.specs.Laid.{places-of, state, Holds};
@@ -83,15 +83,30 @@ fn step<R: Reckoning>(
     ensures { λ r. ⌜ One (R·Reckoning .operations) (handed (length (now (levels .entry))) (length (now (bounds .entry))) (length (now (values .entry)))) (state (now (book .entry)) (now (levels .entry)) (now (bounds .entry)) (now (values .entry))) (state (now (book .exit)) (now (levels .exit)) (now (bounds .exit)) (now (values .exit))) (call .entry) r ⌝ }
 {
     match call {
-        Call::Enter(key, loss, rates) => as_done(book.enter::<R>(key, loss, rates, levels, bounds, values)),
+        Call::Enter(key, loss, rates) => as_done(book.enter::<R>(
+            key,
+            loss,
+            rates,
+            levels,
+            bounds,
+            values,
+        )),
         Call::ReRate(key, rates) => as_done(book.rerate::<R>(key, rates, levels, bounds, values)),
         Call::Strike(key) => as_done(book.strike::<R>(key, levels, bounds, values)),
-        Call::BoundsAt(scenario, level) => as_bounds(book.bounds_value::<R>(scenario, level, levels, bounds, values)),
-        Call::ValueAt(scenario, level) => as_value(book.value::<R>(scenario, level, levels, bounds, values)),
-        Call::ChanceAt(scenario, level) => as_chance(book.chance::<R>(scenario, level, levels, bounds, values)),
-        Call::ReserveFor(_confidence) => Answer::Refused(Refusal::Confidence),
+        Call::BoundsAt(s, k) => as_bounds(book.bounds_value::<R>(s, k, levels, bounds, values)),
+        Call::ValueAt(s, k) => as_value(book.value::<R>(s, k, levels, bounds, values)),
+        Call::ChanceAt(s, k) => as_chance(book.chance::<R>(s, k, levels, bounds, values)),
+        Call::ReserveFor(c) => as_reserve(book.reserve::<R>(c, levels, bounds, values)),
         Call::LayerOf(from, to) => as_layer(book.layer::<R>(from, to, levels, bounds, values)),
     }
+}
+
+// Puts an item in its place.
+fn put<T: Drop>(places: &mut [T], i: usize, item: T)
+    requires { ⌜ i < length (now places) ⌝ }
+    ensures { λ _. ⌜ now (places .exit) ≡ set (now (places .entry)) i item ⌝ }
+{
+    places[i] = item;
 }
 
 // Carries out the calls in turn, as many as there are places for answers, and leaves each answer in its place.
@@ -108,7 +123,8 @@ fn carry_out<R: Reckoning>(
 {
     let n = calls.len().min(answers.len());
     for i in 0..n {
-        answers[i] = step::<R>(book, calls[i], levels, bounds, values);
+        let answer = step::<R>(book, calls[i], levels, bounds, values);
+        put(answers, i, answer);
     }
     n
 }
@@ -127,6 +143,6 @@ pub fn run<R: Reckoning>(
     ensures count { λ r. ⌜ made r (λ n. n ≡ min (length (now (calls .entry))) (length (now (answers .entry)))) ⌝ }
     ensures law { λ r. ⌜ Law (R·Reckoning .operations) (R·Reckoning .stands) (handed (length (now (levels .entry))) (length (now (bounds .entry))) (length (now (values .entry)))) ceiling (now (shares .entry)) (refusal-of r) (take (min (length (now (calls .entry))) (length (now (answers .entry)))) (now (calls .entry))) (state (now (book .entry)) (now (levels .entry)) (now (bounds .entry)) (now (values .entry))) (state (now (book .exit)) (now (levels .exit)) (now (bounds .exit)) (now (values .exit))) (now (answers .entry)) (now (answers .exit)) ⌝ }
 {
-    let _ = book.open::<R>(ceiling, shares, levels, bounds, values)?;
+    book.open::<R>(ceiling, shares, levels, bounds, values)?;
     Ok(carry_out::<R>(book, calls, levels, bounds, values, answers))
 }

@@ -17,6 +17,6 @@ returns-in-ChanceAt g c =
     let x = state (c .args .book .now) (c .args .levels .now) (c .args .bounds .now) (c .args .values .now) in
     let told = c .chance .result in
     subst (λ (d : Call). One ops h x x d (c .as-chance .result)) (sym (c .in-ChanceAt .is))
-    (one-reading (λ t. Chance (t .0) (t .1)) (λ t. refl) ops h x (ChanceAt (c .in-ChanceAt .scenario) (c .in-ChanceAt .level)) refl told (c .as-chance .result) (c .as-chance .ensures)
+    (one-reading (λ t. Chance (t .0) (t .1)) (λ t. refl) ops h x (ChanceAt (c .in-ChanceAt .s) (c .in-ChanceAt .k)) refl told (c .as-chance .result) (c .as-chance .ensures)
     (c .chance .ensures .declines)
     (λ held. made-on _ _ (λ t is. ap (λ (g : Grains). Chance (g .lower) (g .upper)) is) told (c .chance .ensures .tells held)))
