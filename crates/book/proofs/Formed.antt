@@ -158,6 +158,3 @@ afters-sound h p (c ∷ cs) s = afters-sound h (after h p c) cs (after-sound h p
 -- the list after an accepted opening
 pub after-opened : (h : Handed) (p : Plain) (ceiling : ℕ) (ws : List ℕ) → declines-open h ceiling ws ≡ None → after-open h p ceiling ws ≡ opened (h .levels) ceiling ws
 after-opened h p ceiling ws e = ap (λ (d : Option ℕ). unless d p (opened (h .levels) ceiling ws)) e
-
-pub after-open-sound : (h : Handed) (p : Plain) (ceiling : ℕ) (ws : List ℕ) → declines-open h ceiling ws ≡ None → Sound h (after-open h p ceiling ws)
-after-open-sound h p ceiling ws e = subst (Sound h) (sym (after-opened h p ceiling ws e)) (opened-sound h ceiling ws e)

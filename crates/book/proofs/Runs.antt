@@ -150,14 +150,6 @@ module _ {V : Type 0} (ops : Operations V) (stands : V → List ℕ → Family �
       subst (λ (p : Plain). Carried-out ops stands h p calls x z old new) (sym (after-opened h unopened ceiling shares accepted))
       (carried-from (opened (h .levels) ceiling shares) calls x y z old new 1 one outside (subst (λ (p : Plain). Carried-out ops stands h p calls y z old new) list run))
 
-  -- after the opening, before any call
-  pub law-none : (ceiling : ℕ) (shares : List ℕ) (x y : State V) (old : List (Answer V)) → declines-open h ceiling shares ≡ None →
-      listed (y .book) ≡ opened (h .levels) ceiling shares → Holds ops (y .book) (y .places) → Outside (length shares) (h .levels) 1 (x .places) (y .places) →
-      Carried-out ops stands h (after-open h unopened ceiling shares) [] x y old old
-  law-none ceiling shares x y old accepted list held outside =
-      law-opened ceiling shares [] x y y old old accepted list outside
-      (carried-none (listed (y .book)) y old (subst (Sound h) (sym list) (opened-sound h ceiling shares accepted)) refl held)
-
   -- one call more, at place i
   module _ (p : Plain) (sound : Sound h p) (calls : List Call) (x y z : State V) (old new : List (Answer V)) (i : ℕ) (c : Call) (a : Answer V)
       (l : i < length calls) (room : i < length new) (at : c ≡ getD calls i c)
@@ -219,24 +211,7 @@ module _ {V : Type 0} (ops : Operations V) (stands : V → List ℕ → Family �
       Carried-out ops stands h p (take (i + 1) calls) x z old (set new i a)
   law-step p sound calls x y z old new i c a l room at law k same one = law-more p sound calls x y z old new i c a l room at law (subst (λ (q : Handed). One ops q y z c a) same one)
 
--- ---- the law, from the opening and the calls
-module _ {V : Type 0} (ops : Operations V) (stands : V → List ℕ → Family → Type 0) (h : Handed) (ceiling : ℕ) (shares : List ℕ) (refusal : Option ℕ) (is : refusal ≡ declines-open h ceiling shares) where
-  pub law-declined : (n : ℕ) (calls : List Call) (x y : State V) (old new : List (Answer V)) → refusal ≡ Some n → y ≡ x → new ≡ old → Law ops stands h ceiling shares refusal calls x y old new
-  law-declined n calls x y old new declined same unanswered = record {
-    opening = is;
-    unchanged = λ _ _. same;
-    unanswered = λ _ _. unanswered;
-    run = λ accepted. let z : _≡_ {A = ℕ} 0 1 = cc in absurd (omega arith);
-  }
-
-  pub law-accepted : (calls : List Call) (x y : State V) (old new : List (Answer V)) → refusal ≡ None → Carried-out ops stands h (after-open h unopened ceiling shares) calls x y old new → Law ops stands h ceiling shares refusal calls x y old new
-  law-accepted calls x y old new accepted run = record {
-    opening = is;
-    unchanged = λ n declined. let z : _≡_ {A = ℕ} 0 1 = cc in absurd (omega arith);
-    unanswered = λ n declined. let z : _≡_ {A = ℕ} 0 1 = cc in absurd (omega arith);
-    run = λ _. run;
-  }
-
+-- ---- the law
 -- an accepted opening, and then calls that were handed as many places
 pub law-run : {V : Type 0} (ops : Operations V) (stands : V → List ℕ → Family → Type 0) (means : Figures-stand ops stands) (h : Handed) (ceiling : ℕ) (shares : List ℕ) (calls : List Call) (x y z : State V) (old new : List (Answer V)) →
     None ≡ declines-open h ceiling shares → listed (y .book) ≡ opened (h .levels) ceiling shares → Holds ops (y .book) (y .places) → Outside (length shares) (h .levels) 1 (x .places) (y .places) →
@@ -246,4 +221,9 @@ law-run {V} ops stands means h ceiling shares calls x y z old new accepted list 
     let sound : Sound h (listed (y .book)) = subst (Sound h) (sym list) (opened-sound h ceiling shares (sym accepted)) in
     let run : Carried-out ops stands h (listed (y .book)) calls y z old new =
     subst (λ (q : Handed). Carried-out ops stands q (listed (y .book)) calls y z old new) same (carried (subst (λ (q : Handed). Sound q (listed (y .book))) (sym same) sound) held) in
-    law-accepted ops stands h ceiling shares None accepted calls x z old new refl (law-opened ops stands means h ceiling shares calls x y z old new (sym accepted) list outside run)
+    record {
+      opening = accepted;
+      unchanged = λ n declined. let absent : _≡_ {A = ℕ} 0 1 = cc in absurd (omega arith);
+      unanswered = λ n declined. let absent : _≡_ {A = ℕ} 0 1 = cc in absurd (omega arith);
+      run = λ _. law-opened ops stands means h ceiling shares calls x y z old new (sym accepted) list outside run;
+    }

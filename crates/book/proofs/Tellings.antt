@@ -1,5 +1,5 @@
 -- What calls tell of a list that a run can reach is true to its outcomes.
-use mathlib.Core.Path.{_≡_, refl, sym, subst, _∙_}
+use mathlib.Core.Path.{_≡_, refl, _∙_}
 use mathlib.Core.List.{List}
 use mathlib.Core.Bool.{Bool, false, cond, not, _&&_}
 use Prim.Native.Nat.{ℕ, _+_, _≤_}
@@ -11,17 +11,15 @@ use Rattle.std.proofs.shelf.Tests.{and-from, or-from, not-from-true, cond-false
 use Rattle.reckoning.specs.Operations.{Operations}
 use Rattle.reckoning.specs.Outcomes.{Family, outside}
 use Rattle.reckoning.specs.Enclosing.{bounds}
-use Rattle.book.specs.declared.call.Call.{Call}
 use Rattle.book.specs.declared.call.Call.the-variants.{ValueAt, ChanceAt, ReserveFor, LayerOf}
 use Rattle.book.specs.Declines.{Handed, places-wrong}
 use Rattle.book.specs.Figures.{chance}
-use Rattle.book.specs.Law.{Tells-truth, Runs-tell-truth}
-use Rattle.book.specs.Plain.{Plain, scenarios, unopened, opened}
+use Rattle.book.specs.Law.{Tells-truth}
+use Rattle.book.specs.Plain.{Plain, scenarios}
 use Rattle.book.specs.Pricing.{mix-lower, mix-upper, reserve-low, reserve-high, layer-low, layer-high}
-use Rattle.book.specs.Runs.{declines, afters, Sound}
+use Rattle.book.specs.Runs.{declines, Sound}
 use Rattle.book.specs.Truth.{Inside, Confidence, Layer, Figures-stand}
 use Rattle.book.specs.Values.{value}
-use Rattle.book.proofs.Formed.{opened-sound, afters-sound, after-opened}
 
 -- the first sentence does not hold, nor a later one
 passes : (t : Bool) (n : ℕ) (rest : Option ℕ) → t ≡ false → rest ≡ None → cond t (Some n) rest ≡ None
@@ -87,8 +85,3 @@ module _ {V : Type 0} (ops : Operations V) (stands : V → List ℕ → Family �
           record { encloses = figures .layer-enclosed d t layer; narrow = figures .layer-narrow d t layer },
         );
       }
-
-  pub runs-tell-truth : Runs-tell-truth ops stands
-  runs-tell-truth h ceiling shares calls accepted =
-      subst (λ (p : Plain). Tells-truth ops stands h (afters h p calls)) (sym (after-opened h unopened ceiling shares accepted))
-      (sound-tells-truth h (afters h (opened (h .levels) ceiling shares) calls) (afters-sound h (opened (h .levels) ceiling shares) calls (opened-sound h ceiling shares accepted)))

@@ -59,11 +59,6 @@ pub record Tells-truth {V : Type 0} (ops : Operations V) (stands : V → List �
   -- for any layer two sums are told, which enclose the exact premium and differ by at most n + 1 grains a level
   pub layer-within : (d t : ℕ) → Truth.Layer p d t → (low : ℕ) × (high : ℕ) × Tells ops h p (LayerOf d t) (Layer low high) × Within ((t - d) * (size p + 1)) low high (premium-mix p d t) (all-mix p)
 
--- what calls tell is true to the outcomes of every list that a run can reach
-abbrev pub Runs-tell-truth : {V : Type 0} → Operations V → (V → List ℕ → Family → Type 0) → Type 0
-Runs-tell-truth ops stands =
-    (h : Handed) (ceiling : ℕ) (shares : List ℕ) (calls : List Call) → declines-open h ceiling shares ≡ None → Tells-truth ops stands h (afters h (after-open h unopened ceiling shares) calls)
-
 -- ---- a run
 -- calls carried out in turn on a book of the list p: x is the state before them and y the state after them, old and new are the places of the answers
 pub record Carried-out {V : Type 0} (ops : Operations V) (stands : V → List ℕ → Family → Type 0) (h : Handed) (p : Plain) (calls : List Call) (x y : State V) (old new : List (Answer V)) : Type 0 where

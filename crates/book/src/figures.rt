@@ -1,5 +1,4 @@
 // What the figures of a book have to do with the outcomes of its contracts.
-ghost use Rattle.book.specs.Law.{Runs-tell-truth};
 ghost use Rattle.book.specs.Least.{Least-is-least};
 ghost use Rattle.book.specs.Truth.{Figures-stand};
 ghost use Rattle.book.specs.Worked.{Worked-cases-stand};
@@ -22,13 +21,6 @@ pub fn figures_stand<R: Reckoning>() -> bool
 // Small books worked through have the figures that their table says.
 pub fn worked_cases_stand() -> bool
     ensures { λ _. ⌜ Worked-cases-stand ⌝ }
-{
-    true
-}
-
-// Whatever calls a list is fed with, in whichever order, what it then tells is true to its outcomes.
-pub fn runs_tell_truth<R: Reckoning>() -> bool
-    ensures { λ _. ⌜ Runs-tell-truth (R·Reckoning .operations) (R·Reckoning .stands) ⌝ }
 {
     true
 }
