@@ -17,6 +17,7 @@ pub mod Layouts
 pub mod Rebuilds
 pub mod Halvings
 pub mod Readings
+pub mod Stretches
 pub mod Leasts
 pub mod Founds
 pub mod Families
@@ -26,3 +27,7 @@ pub mod Reserves
 pub mod Sums
 pub mod Premiums
 pub mod Truths
+pub mod Formed
+pub mod Tellings
+pub mod Runs
+pub mod Ones

@@ -18,6 +18,8 @@ pub mod Pricing
 pub mod WellFormed
 pub mod Truth
 pub mod Worked
+pub mod Runs
+pub mod Law
 pub mod Finding
 pub mod Fitting
 pub mod Reserved
