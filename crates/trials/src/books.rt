@@ -115,6 +115,52 @@ fn garbage_in_places_is_lived_with(rt: LibcRuntime) -> Result<(), Fail> {
     check(matches!(few, Err(Refusal::Places)))
 }
 
+#[test]
+fn each_scenario_has_its_row(rt: LibcRuntime) -> Result<(), Fail> {
+    let mut book = Book::new(rt.alloc())?;
+    let mut levels = [9u32; 3];
+    let mut bounds = [exact(7); 8];
+    let mut values = [Some(7u16); 7];
+    let shares = [250_000u32, 750_000];
+    book.open::<Claims>(6, &shares, &mut levels, &mut bounds, &mut values)?;
+    let rates = [200_000u32, 400_000];
+    book.enter::<Claims>(1, 1, &rates, &mut levels, &mut bounds, &mut values)?;
+    check_eq(levels, [0, 1, 9])?;
+    check_eq(bounds[0], exact(800_000_000_000))?;
+    check_eq(bounds[2], exact(7))?;
+    check_eq(bounds[3], exact(600_000_000_000))?;
+    check_eq(bounds[5], exact(7))?;
+    check_eq(
+        book.chance::<Claims>(2, 0, &levels, &bounds, &values)?,
+        (600_000_000_000, 600_000_000_000),
+    )?;
+    check_eq(
+        book.chance::<Claims>(0, 0, &levels, &bounds, &values)?,
+        (650_000_000_000, 650_000_000_000),
+    )
+}
+
+#[test]
+fn other_slices_get_an_answer_in_range(rt: LibcRuntime) -> Result<(), Fail> {
+    let mut book = Book::new(rt.alloc())?;
+    let mut levels = [0u32; 4];
+    let mut bounds = [exact(0); 4];
+    let mut values = [None; 4];
+    book.open::<Claims>(6, &ALL, &mut levels, &mut bounds, &mut values)?;
+    book.enter::<Claims>(1, 2, &HALF, &mut levels, &mut bounds, &mut values)?;
+    let others = [3u32, 1, 1, 0];
+    let pairs = [exact(2_000_000_000_000); 4];
+    let counts = [None; 4];
+    let (lower, upper) = book.chance::<Claims>(0, 6, &others, &pairs, &counts)?;
+    check(lower <= upper)?;
+    check(upper <= 1_000_000_000_000)?;
+    check_eq(book.value::<Claims>(1, 6, &others, &pairs, &counts)?, None)?;
+    let many = book.chance::<Claims>(0, 6, &[0u32; 5], &pairs, &counts);
+    check(matches!(many, Err(Refusal::Places)))?;
+    let few = book.chance::<Claims>(0, 6, &others, &pairs[1..], &counts);
+    check(matches!(few, Err(Refusal::Places)))
+}
+
 // Reckons the rate of the contract that was entered last.
 #[derive(Clone, Copy)]
 struct Newest;

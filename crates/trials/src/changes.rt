@@ -133,29 +133,34 @@ fn fill_but(
     Ok(())
 }
 
+// Strikes a key from the full book, and compares with a book that never had it.
+fn strike_and_compare(key: u32, full: &mut Book, less: &mut Book) -> Result<(), Fail> {
+    let mut levels = [0u32; 11];
+    let mut bounds = [exact(0); 11];
+    let mut values = [None; 11];
+    fill_but(256, full, &mut levels, &mut bounds, &mut values)?;
+    full.strike::<Claims>(key, &mut levels, &mut bounds, &mut values)?;
+    let mut other_levels = [0u32; 11];
+    let mut other_bounds = [exact(0); 11];
+    let mut other_values = [None; 11];
+    fill_but(
+        key,
+        less,
+        &mut other_levels,
+        &mut other_bounds,
+        &mut other_values,
+    )?;
+    check_eq(levels, other_levels)?;
+    check_eq(bounds, other_bounds)?;
+    check_eq(values, other_values)
+}
+
 #[test]
 fn striking_each_of_256_gives_the_book_without_it(rt: LibcRuntime) -> Result<(), Fail> {
     let mut full = Book::new(rt.alloc())?;
     let mut less = Book::new(rt.alloc())?;
-    let mut levels = [0u32; 11];
-    let mut bounds = [exact(0); 11];
-    let mut values = [None; 11];
-    let mut other_levels = [0u32; 11];
-    let mut other_bounds = [exact(0); 11];
-    let mut other_values = [None; 11];
     for key in 0..256u32 {
-        fill_but(256, &mut full, &mut levels, &mut bounds, &mut values)?;
-        full.strike::<Claims>(key, &mut levels, &mut bounds, &mut values)?;
-        fill_but(
-            key,
-            &mut less,
-            &mut other_levels,
-            &mut other_bounds,
-            &mut other_values,
-        )?;
-        check_eq(levels, other_levels)?;
-        check_eq(bounds, other_bounds)?;
-        check_eq(values, other_values)?;
+        strike_and_compare(key, &mut full, &mut less)?;
     }
     Ok(())
 }

@@ -1,4 +1,8 @@
-// The file of a small book, read and written.
+// The parts of a file, the printed lines, and a file read into a book.
+use book::book::Book;
+use reckoning::claims::Claims;
+use reckoning::claims::ClaimsReckoning;
+use reckoning::grains::Grains;
 use std::test::*;
 use tariff::fault::Malformed;
 use tariff::fault::MalformedDebug;
@@ -8,6 +12,7 @@ use tariff::fault::NumberFaultDebug;
 use tariff::fault::NumberFaultPartialEq;
 use tariff::line::read_line;
 use tariff::number::number;
+use tariff::reading::read;
 use tariff::text::TooFew;
 use tariff::text::TooFewDebug;
 use tariff::text::TooFewPartialEq;
@@ -55,4 +60,20 @@ fn lines_are_told() -> Result<(), Fail> {
         level_line(&mut out, 2, 760_000_000_000, 760_000_000_000),
         Err(TooFew),
     )
+}
+
+#[test]
+fn a_declined_line_leaves_those_before_it(rt: LibcRuntime) -> Result<(), Fail> {
+    let mut book = Book::new(rt.alloc())?;
+    let mut levels = [9u32; 5];
+    let mut bounds = [Grains { lower: 7, upper: 7 }; 5];
+    let mut values = [None; 5];
+    let file = b"S 1000000\nC 11 3 200000\nC 12 2 500000\nC 11 2 100000\nT 00006 1 003 010\n";
+    let Err(fault) = read::<Claims>(&mut book, file, &mut levels, &mut bounds, &mut values) else {
+        return Err(Fail::new("the key is there twice"));
+    };
+    check_eq(fault.number(), 11)?;
+    check_eq(fault.place(), 38)?;
+    check_eq(levels, [0, 2, 3, 5, 9])?;
+    check_eq(book.levels_kept(), 4)
 }
