@@ -1,4 +1,6 @@
 // A loss book over lent places: its kept levels, and the values beside them.
+#![tactic(auto)]
+
 pub mod book;
 pub mod changing;
 pub mod contract;

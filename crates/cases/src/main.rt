@@ -1,4 +1,6 @@
 // Runs stored tariff files through the statement and stored scripts through the probe, and prints how many got the answers that are stored beside them.
+#![tactic(auto)]
+
 use probing::running::run_script;
 use rendering::statement::statement_of;
 use std::alloc::AllocError;

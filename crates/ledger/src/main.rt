@@ -1,4 +1,6 @@
 // Runs a script of calls on a book from standard input, and prints one answer a line.
+#![tactic(auto)]
+
 mod saying;
 mod script;
 

@@ -1,4 +1,6 @@
 // Makes single calls on a book, each with its own number of places, from a script on standard input; prints one answer a line.
+#![tactic(auto)]
+
 use anyhow::anyhow;
 use probing::running::run_script;
 use scripts::input::{read_script_text, say_fault};

@@ -1,4 +1,6 @@
 // Single calls on a book and its places, asked for by lines of text.
+#![tactic(auto)]
+
 mod asking;
 mod hex;
 mod lending;

@@ -1,4 +1,6 @@
 // Reckonings: what a value in a place stands for, and how two values are blended.
+#![tactic(auto)]
+
 pub mod bounds;
 pub mod claims;
 pub mod families;

@@ -1,4 +1,6 @@
 // What is written of a book: its tariff file, its statement, and the lines that are told of it.
+#![tactic(auto)]
+
 mod digits;
 pub mod round_trips;
 pub mod statement;

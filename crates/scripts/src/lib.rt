@@ -1,4 +1,6 @@
 // Scripts of calls: their text, the calls and numbers of a line, and answers in words.
+#![tactic(auto)]
+
 pub mod input;
 pub mod numbers;
 pub mod saying;

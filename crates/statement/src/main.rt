@@ -1,4 +1,6 @@
 // Reads a tariff file from standard input and prints its statement.
+#![tactic(auto)]
+
 use anyhow::anyhow;
 use rendering::statement::statement_of;
 use std::io::Read;

@@ -1,4 +1,6 @@
 // Reading a tariff file, and why one is refused.
+#![tactic(auto)]
+
 pub mod reading;
 pub mod refusal;
 pub mod theorems;

@@ -8,8 +8,8 @@ use Rattle.book.specs.Some.{some}
 use Rattle.book.proofs.Somes.{some_at, none_more}
 use Rattle.book.proofs.entering.read_rates.Goals as goal
 
-pub returns-in-default : goal.returns-in-default
-returns-in-default c = or_right _ _ (some_at rate_wrong c.args.given.now c.loop-i.i 0 c.loop-i-test.true c.in-default.ensures)
+pub returns-in_default : goal.returns-in_default
+returns-in_default c = or_right _ _ (some_at rate_wrong c.args.given.now c.loop-i.i 0 c.loop-i-test.true c.in_default.ensures)
 
 pub loop-i-preserved : goal.loop-i-preserved
 loop-i-preserved c =

@@ -11,12 +11,12 @@ returns g c =
       outside = search rules;
       begun = record {
         levels = search rules;
-        bounds = record { each = c.begin-rows.ensures.each; rest = c.begin-rows.ensures.rest };
-        values = record { each = c.begin-rows-2.ensures.each; rest = c.begin-rows-2.ensures.rest };
+        bounds = record { each = c.begin_rows.ensures.each; rest = c.begin_rows.ensures.rest };
+        values = record { each = c.begin_rows-2.ensures.each; rest = c.begin_rows-2.ensures.rest };
       };
       lays = λ ceiling shares one_each. record {
         levels = levels_begun p ceiling shares c.args.levels.now (omega arith);
-        bounds = rows_begun Enclosing.bounds n p ceiling shares c.args.bounds.now c.begin-rows.new.rows (omega arith) (omega arith) one_each c.begin-rows.ensures.each;
-        values = rows_begun g.R.Reckoning.operations n p ceiling shares c.args.values.now c.begin-rows-2.new.rows (omega arith) (omega arith) one_each c.begin-rows-2.ensures.each;
+        bounds = rows_begun Enclosing.bounds n p ceiling shares c.args.bounds.now c.begin_rows.new.rows (omega arith) (omega arith) one_each c.begin_rows.ensures.each;
+        values = rows_begun g.R.Reckoning.operations n p ceiling shares c.args.values.now c.begin_rows-2.new.rows (omega arith) (omega arith) one_each c.begin_rows-2.ensures.each;
       };
     }

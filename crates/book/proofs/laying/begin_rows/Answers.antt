@@ -3,26 +3,26 @@ use borrow.Rule.Slice.PartMut.{put_mid}
 use Rattle.book.proofs.Strides.{ends_within, put_step, stride_end}
 use Rattle.book.proofs.laying.begin_rows.Goals as goal
 
-pub overflow-mul-at : goal.overflow-mul-at
-overflow-mul-at g c =
+pub overflow_mul-at : goal.overflow_mul-at
+overflow_mul-at g c =
     let h : c.loop-s.s * c.args.places + c.args.places ≤ length c.loop-s.rows =
     ends_within c.loop-s.s c.args.scenarios c.args.places (c.loop-s.s * c.args.places) (length c.loop-s.rows) refl (omega arith) (omega arith) in
     search rules
 
-pub overflow-add-at : goal.overflow-add-at
-overflow-add-at g c =
+pub overflow_add-at : goal.overflow_add-at
+overflow_add-at g c =
     let h : c.loop-s.s * c.args.places + c.args.places ≤ length c.loop-s.rows =
     ends_within c.loop-s.s c.args.scenarios c.args.places (c.loop-s.s * c.args.places) (length c.loop-s.rows) refl (omega arith) (omega arith) in
     search rules
 
-pub offset-bounds-rows-at : goal.offset-bounds-rows-at
-offset-bounds-rows-at g c =
+pub offset_bounds-rows-at : goal.offset_bounds-rows-at
+offset_bounds-rows-at g c =
     let h : c.loop-s.s * c.args.places + c.args.places ≤ length c.loop-s.rows =
     ends_within c.loop-s.s c.args.scenarios c.args.places (c.loop-s.s * c.args.places) (length c.loop-s.rows) refl (omega arith) (omega arith) in
     search rules
 
-pub slice-bounds-begin-row-end : goal.slice-bounds-begin-row-end
-slice-bounds-begin-row-end g c =
+pub slice_bounds-begin_row-end : goal.slice_bounds-begin_row-end
+slice_bounds-begin_row-end g c =
     ends_within c.loop-s.s c.args.scenarios c.args.places (c.loop-s.s * c.args.places) (length c.loop-s.rows) refl (omega arith) (omega arith)
 
 pub loop-s-preserved : goal.loop-s-preserved
@@ -31,8 +31,8 @@ loop-s-preserved g c =
     let s = c.loop-s.s in
     let rows = c.loop-s.rows in
     let h : s * p + p ≤ length rows = ends_within s c.args.scenarios p (s * p) (length rows) refl (omega arith) (omega arith) in
-    let next = put_step p s (s * p) rows c.args.rows.now c.begin-row.new.row (λ s old new. new ≡ set old 0 g.R.Reckoning.operations.whole) h c.begin-row.auto.row c.loop-s.invariant c.begin-row.ensures in
-    (refl, ap (λ (n : ℕ). drop n (put_mid (s * p) (s * p + p - s * p) rows c.begin-row.new.row)) (sym next.0) ∙ next.1 ∙ ap (λ (n : ℕ). drop n c.args.rows.now) next.0, next.2)
+    let next = put_step p s (s * p) rows c.args.rows.now c.begin_row.new.row (λ s old new. new ≡ set old 0 g.R.Reckoning.operations.whole) h c.begin_row.auto.row c.loop-s.invariant c.begin_row.ensures in
+    (refl, ap (λ (n : ℕ). drop n (put_mid (s * p) (s * p + p - s * p) rows c.begin_row.new.row)) (sym next.0) ∙ next.1 ∙ ap (λ (n : ℕ). drop n c.args.rows.now) next.0, next.2)
 
 pub returns : goal.returns
 returns g c =

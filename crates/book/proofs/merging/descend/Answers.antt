@@ -22,7 +22,7 @@ returns-then-a-b c = record {
       let moved = c.args.moved in
       let h : 0 < moved = omega arith in
       let k = moved_within S w x xs own moved (omega arith) (omega arith) e f h in
-      let is : get_or xs (moved - 1) 0 + w ≡ c.saturating-add-b.result = omega arith in
+      let is : get_or xs (moved - 1) 0 + w ≡ c.saturating_add-b.result = omega arith in
       subst (λ (y : ℕ). Left S w x xs y own (moved - 1)) is
       (below S w x xs own moved (omega arith) (omega arith) e f h (omega arith));
 }

@@ -47,5 +47,5 @@ pub loop-own-init : goal.loop-own-init
 loop-own-init c =
     let levels = c.args.levels.now in
     let len = c.args.len in
-    let moved : found_below levels len (c.args.ceiling + 1 - c.args.loss) ≡ c.below-moved.result = ap (found_below levels len) (sym c.saturating-sub.ensures) ∙ sym c.below-moved.ensures.value in
+    let moved : found_below levels len (c.args.ceiling + 1 - c.args.loss) ≡ c.below-moved.result = ap (found_below levels len) (sym c.saturating_sub.ensures) ∙ sym c.below-moved.ensures.value in
     (omega arith, omega arith, omega arith, refl, ap (λ (m : ℕ). levels_turned c.args.merged levels len m c.args.loss) moved, search rules)

@@ -37,7 +37,7 @@ pub loop-own-init : goal.loop-own-init
 loop-own-init c =
     let levels = c.args.levels.now in
     let len = c.args.len in
-    let moved : found_below levels len (c.args.ceiling + 1 - c.args.loss) ≡ c.below-moved.result = ap (found_below levels len) (sym c.saturating-sub.ensures) ∙ sym c.below-moved.ensures.value in
+    let moved : found_below levels len (c.args.ceiling + 1 - c.args.loss) ≡ c.below-moved.result = ap (found_below levels len) (sym c.saturating_sub.ensures) ∙ sym c.below-moved.ensures.value in
     let all : 2 * len ≡ 2 * len - 0 = omega arith in
     let same = ap (λ (m : ℕ). turns (2 * len) levels len m c.args.loss) moved ∙ ap (λ (f : ℕ). turns f levels len c.below-moved.result c.args.loss) all in
     (omega arith, omega arith, omega arith, omega arith, search rules, omega arith)

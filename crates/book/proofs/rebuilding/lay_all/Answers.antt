@@ -19,8 +19,8 @@ loop-contract-init g c =
       λ n new laid. laid,
     )
 
-pub returns-in-default : goal.returns-in-default
-returns-in-default g c =
+pub returns-in_default : goal.returns-in_default
+returns-in_default g c =
     let f = c.args.frame in
     let n = c.loop-contract.len in
     let inv = c.loop-contract.invariant in
@@ -31,16 +31,16 @@ returns-in-default g c =
     let first = subst (λ (k : ℕ). Outside f.scenarios k 1 old begun) q c.begin.ensures.outside in
     record {
       within = omega arith;
-      outside = subst (λ (x : Places _). Outside f.scenarios f.places n old x) (sym c.in-default.ensures.outside) (outside_more f.scenarios f.places 1 n old begun mid inv.1 first inv.2);
+      outside = subst (λ (x : Places _). Outside f.scenarios f.places n old x) (sym c.in_default.ensures.outside) (outside_more f.scenarios f.places 1 n old begun mid inv.1 first inv.2);
       over = λ p framed are.
-          subst (λ (x : Places _). RebuiltOver g.R.Reckoning.operations p n old x) (sym c.in-default.ensures.outside)
+          subst (λ (x : Places _). RebuiltOver g.R.Reckoning.operations p n old x) (sym c.in_default.ensures.outside)
           (rebuilt_by_frame g.R.Reckoning.operations p f c.args.contracts.now (length c.args.levels.now) n old begun mid framed are q c.begin.ensures.begun
-          (goes_on_stops g.R.Reckoning.operations f.scenarios f.ceiling f.places c.args.contracts.now c.loop-contract.contract-index c.contract-item.result (omega arith) c.contract-item.is begun mid n c.in-default.ensures.over inv.4));
+          (goes_on_stops g.R.Reckoning.operations f.scenarios f.ceiling f.places c.args.contracts.now c.loop-contract.contract-index c.contract-item.result (omega arith) c.contract-item.is begun mid n c.in_default.ensures.over inv.4));
       lays = λ p framed are fits.
           let before = with_entries p (take c.loop-contract.contract-index p.contracts) in
           absurd
           (front_fits g.R.Reckoning.operations p f.scenarios c.loop-contract.contract-index c.args.contracts.now c.contract-item.result are (omega arith) c.contract-item.is fits
-          (c.in-default.ensures.lays before (record { ceiling = framed.ceiling; scenarios = framed.scenarios; places = framed.places }) (inv.3 p framed are)));
+          (c.in_default.ensures.lays before (record { ceiling = framed.ceiling; scenarios = framed.scenarios; places = framed.places }) (inv.3 p framed are)));
     }
 
 pub loop-contract-preserved : goal.loop-contract-preserved

@@ -35,17 +35,17 @@ upper_fits c =
     turn_bound c.args.shares.now (λ s. (told_in c.args.places c.args.rows.now c.args.found s).upper) c.loop-s.s c.loop-s.upper c.from-share.result c.upper.result
     c.loop-s-test.true c.loop-s.invariant.1 c.from-share.ensures (upper_is c) 1000000000000 (told_upper c.args.places c.args.rows.now c.args.found) c.requires.1.1
 
-pub overflow-mul-lower : goal.overflow-mul-lower
-overflow-mul-lower c = omega (arith, lower_fits c)
+pub overflow_mul-lower : goal.overflow_mul-lower
+overflow_mul-lower c = omega (arith, lower_fits c)
 
-pub overflow-add-lower : goal.overflow-add-lower
-overflow-add-lower c = omega (arith, lower_fits c)
+pub overflow_add-lower : goal.overflow_add-lower
+overflow_add-lower c = omega (arith, lower_fits c)
 
-pub overflow-mul-upper : goal.overflow-mul-upper
-overflow-mul-upper c = omega (arith, upper_fits c)
+pub overflow_mul-upper : goal.overflow_mul-upper
+overflow_mul-upper c = omega (arith, upper_fits c)
 
-pub overflow-add-upper : goal.overflow-add-upper
-overflow-add-upper c = omega (arith, upper_fits c)
+pub overflow_add-upper : goal.overflow_add-upper
+overflow_add-upper c = omega (arith, upper_fits c)
 
 pub loop-s-preserved : goal.loop-s-preserved
 loop-s-preserved c =
@@ -57,8 +57,8 @@ loop-s-preserved c =
           c.loop-s-test.true c.loop-s.invariant.1 c.from-share.ensures (upper_is c),
     )
 
-pub overflow-add-result : goal.overflow-add-result
-overflow-add-result c =
+pub overflow_add-result : goal.overflow_add-result
+overflow_add-result c =
     let ws = c.args.shares.now in
     let f = λ (s : ℕ). (told_in c.args.places c.args.rows.now c.args.found s).upper in
     omega (arith, c.loop-s.invariant.1, shared_bound ws f 1000000000000 c.loop-s.s (told_upper c.args.places c.args.rows.now c.args.found), ap (λ n. 1000000000000 * n) c.requires.1.1)

@@ -24,8 +24,8 @@ loop-own-preserved g c =
     let rate = c.args.rate.millionths in
     let kept-own = stays_read a.operations vs own moved c.index-row-own.result (omega arith) (omega arith) c.index-row-own.is in
     let kept_moved : c.if-moved-gt0.falls ≡ cond (eqb moved 0) a.operations.nothing (get_or vs (moved - 1) a.operations.nothing) = elim c.if-moved-gt0.branch [
-      | then-moved-gt0 v ↦ v.falls_is ∙ falls_read a.operations vs own moved v.index-row-moved.result v.if-moved-gt0.true (omega arith) v.index-row-moved.is
-      | else-moved-gt0 v ↦ falls_nothing a.operations vs own moved c.if-moved-gt0.falls v.if-moved-gt0.false (v.falls_is ∙ v.nothing_falls.ensures)
+      | then-moved-gt0 v ↦ v.falls-is ∙ falls_read a.operations vs own moved v.index-row-moved.result v.if-moved-gt0.true (omega arith) v.index-row-moved.is
+      | else-moved-gt0 v ↦ falls_nothing a.operations vs own moved c.if-moved-gt0.falls v.if-moved-gt0.false (v.falls-is ∙ v.nothing-falls.ensures)
     ] in
     let blend : c.blend.result ≡ blended_at a.operations rate vs own moved =
     c.blend.ensures ∙ ap (λ v. a.operations.blended rate v c.if-moved-gt0.falls) kept-own ∙ ap (λ v. a.operations.blended rate (get_or vs (own - 1) a.operations.nothing) v) kept_moved in (
@@ -44,8 +44,8 @@ loop-own-preserved g c =
           let stays : c.index-row-own.result ≡ f d.top =
           c.index-row-own.is ∙ stays_is S f flat vs w x d.top own o was.3 l.0 c.index-row-own.result (omega arith) in
           let falls : c.if-moved-gt0.falls ≡ lagged a.operations.nothing w f d.top = elim c.if-moved-gt0.branch [
-            | then-moved-gt0 v ↦ v.falls_is ∙ v.index-row-moved.is ∙ falls_is S f flat vs w x d.top own o was.3 l.0 a.operations.nothing v.index-row-moved.result moved r.moves v.if-moved-gt0.true
-            | else-moved-gt0 v ↦ v.falls_is ∙ v.nothing_falls.ensures ∙ falls_none S f flat vs w x d.top own o was.3 l.0 a.operations.nothing z (omega (arith, r.moves, v.if-moved-gt0.false))
+            | then-moved-gt0 v ↦ v.falls-is ∙ v.index-row-moved.is ∙ falls_is S f flat vs w x d.top own o was.3 l.0 a.operations.nothing v.index-row-moved.result moved r.moves v.if-moved-gt0.true
+            | else-moved-gt0 v ↦ v.falls-is ∙ v.nothing-falls.ensures ∙ falls_none S f flat vs w x d.top own o was.3 l.0 a.operations.nothing z (omega (arith, r.moves, v.if-moved-gt0.false))
           ] in
           valued S f (entered a.operations w c.args.rate.millionths f) flat w c.args.ceiling (drop n c.args.row.now) xs vs own moved t was (omega arith)
           d.top d.own d.moved c.blend.result (omega arith) (omega arith) (omega arith) l
@@ -78,5 +78,5 @@ pub loop-own-init : goal.loop-own-init
 loop-own-init g c =
     let levels = c.args.levels.now in
     let len = c.args.len in
-    let moved : found_below levels len (c.args.ceiling + 1 - c.args.loss) ≡ c.below-moved.result = ap (found_below levels len) (sym c.saturating-sub.ensures) ∙ sym c.below-moved.ensures.value in
+    let moved : found_below levels len (c.args.ceiling + 1 - c.args.loss) ≡ c.below-moved.result = ap (found_below levels len) (sym c.saturating_sub.ensures) ∙ sym c.below-moved.ensures.value in
     (omega arith, omega arith, omega arith, refl, ap (λ (m : ℕ). row_turned g.R.Reckoning.operations levels c.args.loss c.args.rate.millionths c.args.merged c.args.row.now len m) moved, search rules)

@@ -6,26 +6,26 @@ use Rattle.book.specs.Merging.{Follows}
 use Rattle.book.proofs.Strides.{ends_within, put_step, stride_end, MergedRow}
 use Rattle.book.proofs.valuing.merge_rows.Goals as goal
 
-pub overflow-add-at : goal.overflow-add-at
-overflow-add-at g c =
+pub overflow_add-at : goal.overflow_add-at
+overflow_add-at g c =
     let h : c.loop-rate.at + c.args.places ≤ length c.loop-rate.rows =
     ends_within c.loop-rate.rate-index (length c.args.rates.now) c.args.places c.loop-rate.at (length c.loop-rate.rows) c.loop-rate.invariant.0 (omega arith) (omega arith) in
     search rules
 
-pub offset-bounds-rows-at : goal.offset-bounds-rows-at
-offset-bounds-rows-at g c =
+pub offset_bounds-rows-at : goal.offset_bounds-rows-at
+offset_bounds-rows-at g c =
     let h : c.loop-rate.at + c.args.places ≤ length c.loop-rate.rows =
     ends_within c.loop-rate.rate-index (length c.args.rates.now) c.args.places c.loop-rate.at (length c.loop-rate.rows) c.loop-rate.invariant.0 (omega arith) (omega arith) in
     search rules
 
-pub slice-bounds-merge-row-end : goal.slice-bounds-merge-row-end
-slice-bounds-merge-row-end g c =
+pub slice_bounds-merge_row-end : goal.slice_bounds-merge_row-end
+slice_bounds-merge_row-end g c =
     let h : c.loop-rate.at + c.args.places ≤ length c.loop-rate.rows =
     ends_within c.loop-rate.rate-index (length c.args.rates.now) c.args.places c.loop-rate.at (length c.loop-rate.rows) c.loop-rate.invariant.0 (omega arith) (omega arith) in
     search rules
 
-pub overflow-add-at-in-loop-rate : goal.overflow-add-at-in-loop-rate
-overflow-add-at-in-loop-rate g c =
+pub overflow_add-at-in-loop-rate : goal.overflow_add-at-in-loop-rate
+overflow_add-at-in-loop-rate g c =
     let h : c.loop-rate.at + c.args.places ≤ length c.loop-rate.rows =
     ends_within c.loop-rate.rate-index (length c.args.rates.now) c.args.places c.loop-rate.at (length c.loop-rate.rows) c.loop-rate.invariant.0 (omega arith) (omega arith) in
     search rules
@@ -41,11 +41,11 @@ loop-rate-preserved g c =
     let h : at + p ≤ length rows = ends_within i (length rates) p at (length rows) c.loop-rate.invariant.0 (omega arith) (omega arith) in
     let rate : c.rate-item.result.millionths ≡ get_or (millionths_of rates) i 0 =
     ap (λ (r : Rate). r.millionths) c.rate-item.is ∙ sym (get_or-map (λ (r : Rate). r.millionths) rates i c.rate-item.result 0 (omega arith)) in
-    put_step p i at rows c.args.rows.now c.merge-row.new.row
+    put_step p i at rows c.args.rows.now c.merge_row.new.row
     (λ s. MergedRow a.operations c.args.levels.now c.args.len c.args.merged c.args.loss (get_or (millionths_of rates) s 0) c.args.ceiling)
-    h c.merge-row.auto.row c.loop-rate.invariant
-    (subst (λ (r : ℕ). MergedRow a.operations c.args.levels.now c.args.len c.args.merged c.args.loss r c.args.ceiling (take (at + p - at) (drop at rows)) c.merge-row.new.row) rate
-    (c.merge-row.ensures.merged, c.merge-row.ensures.rest, c.merge-row.ensures.turned))
+    h c.merge_row.auto.row c.loop-rate.invariant
+    (subst (λ (r : ℕ). MergedRow a.operations c.args.levels.now c.args.len c.args.merged c.args.loss r c.args.ceiling (take (at + p - at) (drop at rows)) c.merge_row.new.row) rate
+    (c.merge_row.ensures.merged, c.merge_row.ensures.rest, c.merge_row.ensures.turned))
 
 pub returns : goal.returns
 returns g c =

@@ -2,8 +2,8 @@ use Rattle.std.proofs.Common.{◌≡◌, length, decimal, sym, ap, ◌∙◌, in
 use Rattle.lines.proofs.Fields.{field_not_empty, field_at_most_ten, zero_leads_alone, field_has_digits, field_value, digits_are_decimal, value_of_one_more, value_of_all}
 use Rattle.lines.proofs.number.number.Goals as goal
 
-pub returns-then-is-empty : goal.returns-then-is-empty
-returns-then-is-empty c =
+pub returns-then-is_empty : goal.returns-then-is_empty
+returns-then-is_empty c =
     let z : length c.args.field.now ≡ 0 = search rules in
     record { reads = λ n h e. let s = field_not_empty _ n h e in omega arith; fault = z }
 

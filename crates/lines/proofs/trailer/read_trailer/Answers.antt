@@ -5,7 +5,7 @@ use Rattle.lines.proofs.trailer.read_trailer.Goals as goal
 pub returns : goal.returns
 returns c =
     record {
-      reads = trailer_joined c.args.bytes.now _ _ _ _ (omega arith) c.if-not-has-byte.ensures.value
-          c.in-ok-ceiling.ensures.reads c.in-ok-scenarios.ensures.reads c.in-ok-contracts.ensures.reads c.in-ok-place.ensures.reads
-          c.if-not-has-byte-2.ensures.value;
+      reads = trailer_joined c.args.bytes.now _ _ _ _ (omega arith) c.if-not-has_byte.ensures.value
+          c.in_ok-ceiling.ensures.reads c.in_ok-scenarios.ensures.reads c.in_ok-contracts.ensures.reads c.in_ok-place.ensures.reads
+          c.if-not-has_byte-2.ensures.value;
     }

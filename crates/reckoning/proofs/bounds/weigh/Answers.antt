@@ -6,8 +6,8 @@ use Rattle.reckoning.proofs.bounds.weigh.Goals as goal
 bound : (c : goal.After-millionths-r) → ways c.millionths-r.result c.args.u c.args.v ≤ 1000000000000000000
 bound c = ways_bound c.millionths-r.result (omega arith) c.args.u c.args.v (omega arith) (omega arith)
 
-pub overflow-add-result : goal.overflow-add-result
-overflow-add-result c = omega (arith, bound c)
+pub overflow_add-result : goal.overflow_add-result
+overflow_add-result c = omega (arith, bound c)
 
 pub returns : goal.returns
 returns c = record { sum = rw c.millionths-r.ensures (omega arith); bound = omega (arith, bound c) }

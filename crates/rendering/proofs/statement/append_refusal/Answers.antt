@@ -5,7 +5,7 @@ use Rattle.rendering.proofs.Tables.{refusal_fits, told_appended}
 use Rattle.rendering.proofs.statement.append_refusal.Goals as goal
 
 pub unreachable-requires : goal.unreachable-requires
-unreachable-requires c = let fits = refusal_fits c.args.number c.args.place (omega arith) (omega arith) in let short = c.in-default.ensures.tells.0 in omega arith
+unreachable-requires c = let fits = refusal_fits c.args.number c.args.place (omega arith) (omega arith) in let short = c.in_default.ensures.tells.0 in omega arith
 
 pub returns-in-err-extend-from-slice : goal.returns-in-err-extend-from-slice
 returns-in-err-extend-from-slice c = search (rules, IfOk-from_err)

@@ -5,7 +5,7 @@ use Rattle.book.specs.Listed.{listed}
 use Rattle.book.specs.Plain.{losses}
 use Rattle.rendering.proofs.Tables.{levels_more, levels_all, kept_within, kept_at, kept_below, chance_told}
 use Rattle.rendering.proofs.statement.table.Goals as goal
-use Rattle.rendering.proofs.statement.table.Goals.{in-Ok+in-ok-append-level, in-default}
+use Rattle.rendering.proofs.statement.table.Goals.{in-Ok+in-ok-append-level, in_default}
 
 pub loop-i-preserved : goal.loop-i-preserved
 loop-i-preserved c =
@@ -22,9 +22,9 @@ loop-i-preserved c =
       | in-Ok+in-ok-append-level w ↦
           levels_more p ks i (get_or levels i 0) w.in-Ok.lower w.in-Ok.upper (vec_items c.loop-i.text) (vec_items c.match-chance.text) within (kept_at p b.kept levels hold i few)
           (w.in-Ok.ensures.tells c.requires.holds) c.loop-i.invariant (ap vec_items w.text-is ∙ w.in-ok-append-level.ensures)
-      | in-default w ↦
+      | in_default w ↦
           let h = handed (length levels) (length c.args.bounds.now) (length c.args.values.now) in
-          let e = w.in-default.ensures.declines ∙ chance_told h p (get_or levels i 0) c.requires.fits (kept_below p b.kept levels hold i few) in
+          let e = w.in_default.ensures.declines ∙ chance_told h p (get_or levels i 0) c.requires.fits (kept_below p b.kept levels hold i few) in
           let z : ◌≡◌ {A = ℕ} 0 1 = cc in
           absurd (omega arith)
     ]

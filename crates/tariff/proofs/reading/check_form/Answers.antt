@@ -4,8 +4,8 @@ use Rattle.tariff.specs.Forms.{SharesWrong}
 use Rattle.tariff.proofs.Forming.{body_part, no_trailer, ends_in, shares_fault, begins, contract_fault, count_fault, formed}
 use Rattle.tariff.proofs.reading.check_form.Goals as goal
 
-pub returns-in-default : goal.returns-in-default
-returns-in-default c = (record { least = omega arith; most = omega arith }, refl, no_trailer c.args.file.now c.in-default.ensures.reads)
+pub returns-in_default : goal.returns-in_default
+returns-in_default c = (record { least = omega arith; most = omega arith }, refl, no_trailer c.args.file.now c.in_default.ensures.reads)
 
 pub returns-in-err-read-shares : goal.returns-in-err-read-shares
 returns-in-err-read-shares c =

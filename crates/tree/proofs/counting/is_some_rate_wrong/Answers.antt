@@ -7,8 +7,8 @@ use Rattle.tree.specs.declared.pair.Pair.{Pair}
 use Rattle.tree.specs.Counted.{some_rate_wrong}
 use Rattle.tree.proofs.counting.is_some_rate_wrong.Goals as goal
 
-pub returns-in-default : goal.returns-in-default
-returns-in-default c = sym (some_at (λ (p : Pair). rate_wrong p.rate) c.args.pairs.now c.loop-pair.pair-index _ c.loop-pair-test.true c.in-default.ensures)
+pub returns-in_default : goal.returns-in_default
+returns-in_default c = sym (some_at (λ (p : Pair). rate_wrong p.rate) c.args.pairs.now c.loop-pair.pair-index _ c.loop-pair-test.true c.in_default.ensures)
 
 pub loop-pair-preserved : goal.loop-pair-preserved
 loop-pair-preserved c =

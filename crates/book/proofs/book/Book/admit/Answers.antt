@@ -7,44 +7,44 @@ use Rattle.book.proofs.Admissions.{loss_first, rates_first, key_first, full_firs
 use Rattle.book.proofs.Ranges.{loss_right}
 use Rattle.book.proofs.book.Book.admit.Goals as goal
 
-pub returns-in-default : goal.returns-in-default
-returns-in-default c =
+pub returns-in_default : goal.returns-in_default
+returns-in_default c =
     record {
       declines = sym
-          (loss_first (handed c.args.levels c.args.bounds c.args.values) (listed c.args.self.now) c.args.key c.args.loss c.args.rates.now (sym c.if-are-places-wrong.ensures.value) c.in-default.ensures);
+          (loss_first (handed c.args.levels c.args.bounds c.args.values) (listed c.args.self.now) c.args.key c.args.loss c.args.rates.now (sym c.if-are_places_wrong.ensures.value) c.in_default.ensures);
       admitted = tt;
     }
 
-pub returns-in-default-read-rates : goal.returns-in-default-read-rates
-returns-in-default-read-rates c =
+pub returns-in_default-read_rates : goal.returns-in_default-read_rates
+returns-in_default-read_rates c =
     let b = c.args.self.now in
     let eight = loss_right c.in-Some.loss c.args.loss c.in-Some.ensures in
-    let nine : rates_wrong (scenarios (listed b)) c.args.rates.now ≡ true = ap (λ (n : ℕ). rates_wrong n c.args.rates.now) b.shares.one_each ∙ c.in-default-read-rates.ensures in
+    let nine : rates_wrong (scenarios (listed b)) c.args.rates.now ≡ true = ap (λ (n : ℕ). rates_wrong n c.args.rates.now) b.shares.one_each ∙ c.in_default-read_rates.ensures in
     record {
-      declines = sym (rates_first (handed c.args.levels c.args.bounds c.args.values) (listed b) c.args.key c.args.loss c.args.rates.now (sym c.if-are-places-wrong.ensures.value) eight nine);
+      declines = sym (rates_first (handed c.args.levels c.args.bounds c.args.values) (listed b) c.args.key c.args.loss c.args.rates.now (sym c.if-are_places_wrong.ensures.value) eight nine);
       admitted = tt;
     }
 
-pub returns-then-has-key : goal.returns-then-has-key
-returns-then-has-key c =
+pub returns-then-has_key : goal.returns-then-has_key
+returns-then-has_key c =
     let b = c.args.self.now in
     let eight = loss_right c.in-Some.loss c.args.loss c.in-Some.ensures in
-    let nine : rates_wrong (scenarios (listed b)) c.args.rates.now ≡ false = ap (λ (n : ℕ). rates_wrong n c.args.rates.now) b.shares.one_each ∙ c.in-Some-read-rates.ensures.0 in
+    let nine : rates_wrong (scenarios (listed b)) c.args.rates.now ≡ false = ap (λ (n : ℕ). rates_wrong n c.args.rates.now) b.shares.one_each ∙ c.in-Some-read_rates.ensures.0 in
     record {
       declines = sym
-          (key_first (handed c.args.levels c.args.bounds c.args.values) (listed b) c.args.key c.args.loss c.args.rates.now (sym c.if-are-places-wrong.ensures.value) eight nine (sym c.if-has-key.ensures));
+          (key_first (handed c.args.levels c.args.bounds c.args.values) (listed b) c.args.key c.args.loss c.args.rates.now (sym c.if-are_places_wrong.ensures.value) eight nine (sym c.if-has_key.ensures));
       admitted = tt;
     }
 
-pub returns-then-is-full : goal.returns-then-is-full
-returns-then-is-full c =
+pub returns-then-is_full : goal.returns-then-is_full
+returns-then-is_full c =
     let b = c.args.self.now in
     let eight = loss_right c.in-Some.loss c.args.loss c.in-Some.ensures in
-    let nine : rates_wrong (scenarios (listed b)) c.args.rates.now ≡ false = ap (λ (n : ℕ). rates_wrong n c.args.rates.now) b.shares.one_each ∙ c.in-Some-read-rates.ensures.0 in
+    let nine : rates_wrong (scenarios (listed b)) c.args.rates.now ≡ false = ap (λ (n : ℕ). rates_wrong n c.args.rates.now) b.shares.one_each ∙ c.in-Some-read_rates.ensures.0 in
     record {
       declines = sym
-          (full_first (handed c.args.levels c.args.bounds c.args.values) (listed b) c.args.key c.args.loss c.args.rates.now (sym c.if-are-places-wrong.ensures.value) eight nine
-          (sym c.if-has-key.ensures) (sym c.if-is-full.ensures.value));
+          (full_first (handed c.args.levels c.args.bounds c.args.values) (listed b) c.args.key c.args.loss c.args.rates.now (sym c.if-are_places_wrong.ensures.value) eight nine
+          (sym c.if-has_key.ensures) (sym c.if-is_full.ensures.value));
       admitted = tt;
     }
 
@@ -52,16 +52,16 @@ pub returns : goal.returns
 returns c =
     let b = c.args.self.now in
     let eight = loss_right c.in-Some.loss c.args.loss c.in-Some.ensures in
-    let nine : rates_wrong (scenarios (listed b)) c.args.rates.now ≡ false = ap (λ (n : ℕ). rates_wrong n c.args.rates.now) b.shares.one_each ∙ c.in-Some-read-rates.ensures.0 in
-    let fit = sym c.if-are-places-wrong.ensures.value in
+    let nine : rates_wrong (scenarios (listed b)) c.args.rates.now ≡ false = ap (λ (n : ℕ). rates_wrong n c.args.rates.now) b.shares.one_each ∙ c.in-Some-read_rates.ensures.0 in
+    let fit = sym c.if-are_places_wrong.ensures.value in
     record {
       declines = sym
           (none_holds (handed c.args.levels c.args.bounds c.args.values) (listed b) c.args.key c.args.loss c.args.rates.now fit eight nine
-          (sym c.if-has-key.ensures) (sym c.if-is-full.ensures.value));
+          (sym c.if-has_key.ensures) (sym c.if-is_full.ensures.value));
       admitted = (
-        ap (λ (w : ℕ). entry c.args.key w (millionths_of (take b.shares.count c.in-Some-read-rates.rates))) c.in-Some.ensures ∙ ap (λ (rs : List ℕ). entry c.args.key c.args.loss rs) c.in-Some-read-rates.ensures.1,
+        ap (λ (w : ℕ). entry c.args.key w (millionths_of (take b.shares.count c.in-Some-read_rates.rates))) c.in-Some.ensures ∙ ap (λ (rs : List ℕ). entry c.args.key c.args.loss rs) c.in-Some-read_rates.ensures.1,
         fit,
-        c.if-is-full.ensures.room refl,
-        sym c.if-has-key.ensures,
+        c.if-is_full.ensures.room refl,
+        sym c.if-has_key.ensures,
       );
     }

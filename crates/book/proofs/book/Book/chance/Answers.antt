@@ -16,11 +16,11 @@ returns g c =
     let rows = c.args.bounds.now in
     record {
       declines = search rules;
-      range = c.chance-at-told.ensures.range;
-      told = c.chance-at-told.ensures.value ∙ ap (λ (n : ℕ). mixed_at (shares_of b.shares) (told_in b.places rows n) s) c.below-found.ensures.value;
+      range = c.chance_at-told.ensures.range;
+      told = c.chance_at-told.ensures.value ∙ ap (λ (n : ℕ). mixed_at (shares_of b.shares) (told_in b.places rows n) s) c.below-found.ensures.value;
       tells = λ held.
           let are = levels_picked Enclosing.bounds (listed b) b.kept levels rows held.levels held.bounds in
-          c.chance-at-told.ensures.value
+          c.chance_at-told.ensures.value
           ∙ chance_held b levels rows s k c.below-found.result held.levels held.bounds (omega (arith, b.shares.one_each)) (omega arith)
           (c.below-found.ensures.count (reached only_zero (losses (listed b))) (b.ceiling + 1) (omega arith) are);
     }

@@ -11,16 +11,16 @@ use Rattle.book.proofs.Firsts.{first_early, first_late, first_one}
 use Rattle.book.proofs.Overlays.{Over, over_accepted, over_refused, over_declined, over_same}
 use Rattle.book.proofs.book.Book.enter.Goals as goal
 
-pub invariant-of-self : goal.invariant-of-self
-invariant-of-self g c =
+pub invariant_of-self : goal.invariant_of-self
+invariant_of-self g c =
     let b = c.args.self.now in
     let f = entry_of b.shares.count in
     let contract = c.in-Ok.contract in
     let admitted = c.in-Ok.ensures.admitted in
-    let appended : map f (vec_items c.push-reserved.new.self) ≡ map f (vec_items b.contracts) ++ (f contract ∷ []) = ap (map f) c.push-reserved.ensures.items ∙ map_push f (vec_items b.contracts) contract in
+    let appended : map f (vec_items c.push_reserved.new.self) ≡ map f (vec_items b.contracts) ++ (f contract ∷ []) = ap (map f) c.push_reserved.ensures.items ∙ map_push f (vec_items b.contracts) contract in
     let absent : holds_key (f contract).key (map f (vec_items b.contracts)) ≡ false = ap (λ (e : Entry). holds_key e.key (map f (vec_items b.contracts))) admitted.0 ∙ admitted.3 in
     let own = ap distinct_keys appended ∙ distinct_push (map f (vec_items b.contracts)) (f contract) b.own_keys absent in
-    (search rules, (search rules, (search rules, (search rules, (search rules, (search rules, (own, tt)))))))
+    record { few = search rules; room = search rules; some_ceiling = search rules; low_ceiling = search rules; few_places = search rules; inside = search rules; own_keys = own }
 
 pub returns : goal.returns
 returns g c =
@@ -37,8 +37,8 @@ returns g c =
     let old = places_of levels c.args.bounds.now c.args.values.now in
     let new = places_of c.extend.new.levels c.extend.new.bounds c.extend.new.values in
     let early = enter_early (handed (length levels) (length c.args.bounds.now) (length c.args.values.now)) p c.args.key c.args.loss c.args.rates.now in
-    let appended : map f (vec_items c.push-reserved.new.self) ≡ p.contracts ++ (f contract ∷ []) = ap (map f) c.push-reserved.ensures.items ∙ map_push f items contract in
-    let same : with_entry p (entry_of c.frame.result.scenarios contract) ≡ record { ceiling = b.ceiling; shares = shares_of b.shares; places = b.places; contracts = map f (vec_items c.push-reserved.new.self) } =
+    let appended : map f (vec_items c.push_reserved.new.self) ≡ p.contracts ++ (f contract ∷ []) = ap (map f) c.push_reserved.ensures.items ∙ map_push f items contract in
+    let same : with_entry p (entry_of c.frame.result.scenarios contract) ≡ record { ceiling = b.ceiling; shares = shares_of b.shares; places = b.places; contracts = map f (vec_items c.push_reserved.new.self) } =
     ap (λ (k : ℕ). with_entry p (entry_of k contract)) c.frame.ensures.scenarios
     ∙ ap (λ (es : List Entry). record { ceiling = b.ceiling; shares = shares_of b.shares; places = b.places; contracts = es }) (sym appended) in
     record {
@@ -62,8 +62,8 @@ returns g c =
       unchanged = search rules;
     }
 
-pub returns-in-default : goal.returns-in-default
-returns-in-default g c =
+pub returns-in_default : goal.returns-in_default
+returns-in_default g c =
     let b = c.args.self.now in
     let p = listed b in
     let ops = g.R.Reckoning.operations in
@@ -77,7 +77,7 @@ returns-in-default g c =
       declines = search rules;
       list = search rules;
       holds = λ held.
-          let laid = c.in-default.ensures.lays p c.frame.ensures.list (subst (λ (k : ℕ). Lays ops p k old) (sym c.frame.ensures.len) held) in
+          let laid = c.in_default.ensures.lays p c.frame.ensures.list (subst (λ (k : ℕ). Lays ops p k old) (sym c.frame.ensures.len) held) in
           let many : too_many_levels p c.args.loss ≡ true = ap (λ (e : Entry). too_many_levels p e.loss) (sym admitted.0) ∙ laid in
           record {
             answer = sym (first_late early ((13, too_many_levels p c.args.loss) ∷ []) (sym c.in-Ok.ensures.declines) ∙ first_one 13 (too_many_levels p c.args.loss) true many);
@@ -85,7 +85,7 @@ returns-in-default g c =
           };
       over = over_refused ops b b c.args.loss c.args.rates.now (first early) old new
           (over_same (Over ops b b c.args.loss c.args.rates.now (first early) old new None) _ _ _ _ _ _ _ _ _ _
-          c.frame.ensures.len c.frame.ensures.ceiling c.frame.ensures.places (ap (λ (e : Entry). e.loss) admitted.0) (ap (λ (k : ℕ). (entry_of k contract).rates) c.frame.ensures.scenarios ∙ ap (λ (e : Entry). e.rates) admitted.0) c.in-default.ensures.over);
+          c.frame.ensures.len c.frame.ensures.ceiling c.frame.ensures.places (ap (λ (e : Entry). e.loss) admitted.0) (ap (λ (k : ℕ). (entry_of k contract).rates) c.frame.ensures.scenarios ∙ ap (λ (e : Entry). e.rates) admitted.0) c.in_default.ensures.over);
       keeps = search rules;
       unchanged = search rules;
     }

@@ -4,4 +4,4 @@ use Rattle.book.proofs.Finds.{place_holds}
 use Rattle.book.proofs.book.Book.has_key.Goals as goal
 
 pub returns : goal.returns
-returns c = c.is-some.ensures ∙ place_holds c.args.key (listed c.args.self.now).contracts c.find.result c.find.ensures.place
+returns c = c.is_some.ensures ∙ place_holds c.args.key (listed c.args.self.now).contracts c.find.result c.find.ensures.place

@@ -25,21 +25,21 @@ loop-i-init c =
       come_none (λ g. g.lower) c.args.self.now c.args.levels.now c.args.bounds.now c.args.from c.args.to,
     )
 
-pub overflow-add-low : goal.overflow-add-low
-overflow-add-low c =
-    let end = c.end-of-stretch-end.ensures in
+pub overflow_add-low : goal.overflow_add-low
+overflow_add-low c =
+    let end = c.end_of_stretch-end.ensures in
     let wide = c.from-wide.ensures in
     let top = c.args.self.now.low_ceiling in
-    let v = 1000000000000 - c.chance-at-told.result.upper in
-    omega (arith, ap (λ (n : ℕ). n * v) wide, stretch_within 1000000000000 c.args.from c.loop-i.at c.end-of-stretch-end.result c.loop-i.low v (omega arith) (omega arith) (omega arith) (omega arith))
+    let v = 1000000000000 - c.chance_at-told.result.upper in
+    omega (arith, ap (λ (n : ℕ). n * v) wide, stretch_within 1000000000000 c.args.from c.loop-i.at c.end_of_stretch-end.result c.loop-i.low v (omega arith) (omega arith) (omega arith) (omega arith))
 
-pub overflow-add-high : goal.overflow-add-high
-overflow-add-high c =
-    let end = c.end-of-stretch-end.ensures in
+pub overflow_add-high : goal.overflow_add-high
+overflow_add-high c =
+    let end = c.end_of_stretch-end.ensures in
     let wide = c.from-wide.ensures in
     let top = c.args.self.now.low_ceiling in
-    let v = 1000000000000 - c.chance-at-told.result.lower in
-    omega (arith, ap (λ (n : ℕ). n * v) wide, stretch_within 1000000000000 c.args.from c.loop-i.at c.end-of-stretch-end.result c.loop-i.high v (omega arith) (omega arith) (omega arith) (omega arith))
+    let v = 1000000000000 - c.chance_at-told.result.lower in
+    omega (arith, ap (λ (n : ℕ). n * v) wide, stretch_within 1000000000000 c.args.from c.loop-i.at c.end_of_stretch-end.result c.loop-i.high v (omega arith) (omega arith) (omega arith) (omega arith))
 
 pub loop-i-preserved : goal.loop-i-preserved
 loop-i-preserved c =
@@ -49,9 +49,9 @@ loop-i-preserved c =
     let d = c.args.from in
     let a = c.loop-i.at in
     let t = c.args.to in
-    let end = c.end-of-stretch-end.result in
-    let is-end = c.end-of-stretch-end.ensures in
-    let told = c.chance-at-told.result in
+    let end = c.end_of_stretch-end.result in
+    let is-end = c.end_of_stretch-end.ensures in
+    let told = c.chance_at-told.result in
     let u = 1000000000000 - told.upper in
     let v = 1000000000000 - told.lower in
     let wide : c.from-wide.result ≡ end - a = c.from-wide.ensures in
@@ -72,7 +72,7 @@ loop-i-preserved c =
           let next : c.loop-i.i < b.kept = omega arith in
           let same : (k : ℕ) → a ≤ k → k < end → chance p 0 k ≡ told =
           λ k l h.
-          sym (c.chance-at-told.ensures.value
+          sym (c.chance_at-told.ensures.value
           ∙ chance_held b levels c.args.bounds.now 0 k (c.loop-i.i + 1) held rows (omega arith) (omega arith)
           (stretch_even S levels b.kept b.ceiling t within are under c.loop-i.i a inv.0 next k l (omega arith) (omega arith))) in (
             subst (λ (x : ℕ). Ahead S (c.loop-i.i + 1) x t) (sym is-end) (ahead_more S levels b.kept b.ceiling t within are under c.loop-i.i a inv.0 next),
@@ -81,8 +81,8 @@ loop-i-preserved c =
             ap (λ (n : ℕ). c.loop-i.high + n * v) wide
                 ∙ stretch_more (λ k. 1000000000000 - mix_lower p k) v d a end c.loop-i.high (omega arith) up inv.2 (λ k l h. ap (λ (g : Grains). 1000000000000 - g.lower) (same k l h)),
           ),
-      come_more (λ g. g.upper) b levels c.args.bounds.now d t c.loop-i.i a c.loop-i.low end c.from-wide.result told (omega arith) c.chance-at-told.ensures.value is-end wide c.loop-i.invariant.5,
-      come_more (λ g. g.lower) b levels c.args.bounds.now d t c.loop-i.i a c.loop-i.high end c.from-wide.result told (omega arith) c.chance-at-told.ensures.value is-end wide c.loop-i.invariant.6,
+      come_more (λ g. g.upper) b levels c.args.bounds.now d t c.loop-i.i a c.loop-i.low end c.from-wide.result told (omega arith) c.chance_at-told.ensures.value is-end wide c.loop-i.invariant.5,
+      come_more (λ g. g.lower) b levels c.args.bounds.now d t c.loop-i.i a c.loop-i.high end c.from-wide.result told (omega arith) c.chance_at-told.ensures.value is-end wide c.loop-i.invariant.6,
     )
 
 pub returns : goal.returns

@@ -11,16 +11,16 @@ returns g c =
     let f = c.frame.result in
     let levels = c.args.levels.now in
     let old = places_of levels c.args.bounds.now c.args.values.now in
-    let new = places_of c.lay-all-self.new.levels c.lay-all-self.new.bounds c.lay-all-self.new.values in
-    let m = c.lay-all-self.result in
+    let new = places_of c.lay_all-self.new.levels c.lay_all-self.new.bounds c.lay_all-self.new.values in
+    let m = c.lay_all-self.result in
     let n : f.scenarios ≡ length (shares_of b.shares) = c.frame.ensures.scenarios ∙ sym b.shares.one_each in
     let q : f.places ≡ length levels = c.frame.ensures.places ∙ sym c.requires.same in
-    let are : (listed b).contracts ≡ map (entry_of f.scenarios) c.as-slice-contracts.result.now =
+    let are : (listed b).contracts ≡ map (entry_of f.scenarios) c.as_slice-contracts.result.now =
     ap (λ (k : ℕ). map (entry_of k) (Rattle.std.specs.Vec.vec_items b.contracts)) (sym c.frame.ensures.scenarios)
-    ∙ ap (map (entry_of f.scenarios)) (sym c.as-slice-contracts.ensures.value) in
+    ∙ ap (map (entry_of f.scenarios)) (sym c.as_slice-contracts.ensures.value) in
     record {
       list = refl;
-      keeps = subst (λ (k : ℕ). Outside k (length levels) m old new) n (subst (λ (k : ℕ). Outside f.scenarios k m old new) q c.lay-all-self.ensures.outside);
-      over = c.lay-all-self.ensures.over (listed b) c.frame.ensures.list are;
-      holds = λ fits. c.lay-all-self.ensures.lays (listed b) c.frame.ensures.list are fits;
+      keeps = subst (λ (k : ℕ). Outside k (length levels) m old new) n (subst (λ (k : ℕ). Outside f.scenarios k m old new) q c.lay_all-self.ensures.outside);
+      over = c.lay_all-self.ensures.over (listed b) c.frame.ensures.list are;
+      holds = λ fits. c.lay_all-self.ensures.lays (listed b) c.frame.ensures.list are fits;
     }

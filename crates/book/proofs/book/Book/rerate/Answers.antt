@@ -9,9 +9,9 @@ use Rattle.book.proofs.Keys.{distinct_rerated}
 use Rattle.book.proofs.Rebuilds.{held_fits, rerated_fits}
 use Rattle.book.proofs.book.Book.rerate.Goals as goal
 
-pub returns-in-default-find : goal.returns-in-default-find
-returns-in-default-find g c =
-    let none : holds_key c.args.key (listed c.args.self.now).contracts ≡ false = absent c.args.key (listed c.args.self.now).contracts c.in-default-find.ensures.place in
+pub returns-in_default-find : goal.returns-in_default-find
+returns-in_default-find g c =
+    let none : holds_key c.args.key (listed c.args.self.now).contracts ≡ false = absent c.args.key (listed c.args.self.now).contracts c.in_default-find.ensures.place in
     record {
       declines = search rules;
       list = search rules;
@@ -34,7 +34,7 @@ returns g c =
     let within : c.in-Some-find.place < length (vec_items b.contracts) = omega (arith, at.inside, length-map (vec_items b.contracts) (entry_of b.shares.count)) in
     let final : listed c.rebuild.new.self ≡ with_entries p (re_rated k rs p.contracts) =
     c.rebuild.ensures.list
-    ∙ ap (with_entries p) (rerated_list k b.shares.count c.in-Some-find.place (vec_items b.contracts) c.index-mut.result.now _ rs refl refl c.in-Some.ensures.1 within c.index-mut.ensures.value found) in
+    ∙ ap (with_entries p) (rerated_list k b.shares.count c.in-Some-find.place (vec_items b.contracts) c.index_mut.result.now _ rs refl refl c.in-Some.ensures.1 within c.index_mut.ensures.value found) in
     record {
       declines = search rules;
       list = λ _. final;
@@ -46,8 +46,8 @@ returns g c =
       unchanged = tt;
     }
 
-pub invariant-of-self : goal.invariant-of-self
-invariant-of-self g c =
+pub invariant_of-self : goal.invariant_of-self
+invariant_of-self g c =
     let b = c.args.self.now in
     let p = listed b in
     let k = c.args.key in
@@ -55,6 +55,6 @@ invariant-of-self g c =
     let found = c.in-Some-find.ensures.place in
     let at = found_stands k c.in-Some-find.place p.contracts found in
     let within : c.in-Some-find.place < length (vec_items b.contracts) = omega (arith, at.inside, length-map (vec_items b.contracts) (entry_of b.shares.count)) in
-    let are = rerated_list k b.shares.count c.in-Some-find.place (vec_items b.contracts) c.index-mut.result.now _ rs refl refl c.in-Some.ensures.1 within c.index-mut.ensures.value found in
+    let are = rerated_list k b.shares.count c.in-Some-find.place (vec_items b.contracts) c.index_mut.result.now _ rs refl refl c.in-Some.ensures.1 within c.index_mut.ensures.value found in
     let own = ap distinct_keys are ∙ distinct_rerated k rs p.contracts ∙ b.own_keys in
-    (search rules, (search rules, (search rules, (search rules, (search rules, (search rules, (own, tt)))))))
+    record { few = search rules; room = search rules; some_ceiling = search rules; low_ceiling = search rules; few_places = search rules; inside = search rules; own_keys = own }

@@ -12,11 +12,11 @@ returns g c =
     let p = listed b in
     let levels = c.args.levels.now in
     let rows = c.args.bounds.now in
-    let low = c.first-reached-low.result in
-    let high = c.first-reached-high.result in
+    let low = c.first_reached-low.result in
+    let high = c.first_reached-high.result in
     let enough = c.from-enough.ensures in
-    let low_told = c.first-reached-low.ensures.told in
-    let high-told = c.first-reached-high.ensures.told in
+    let low_told = c.first_reached-low.ensures.told in
+    let high-told = c.first_reached-high.ensures.told in
     record {
       declines = search rules;
       range = (first_among _ levels b.kept low low_told, first_among _ levels b.kept high high-told);
@@ -25,7 +25,7 @@ returns g c =
         subst (λ (n : ℕ). FirstOf (λ i. leb (n * 1000000) (mix_beside b rows i).lower) levels b.kept high) enough high-told,
       );
       tells = λ held. (
-        subst (λ (n : ℕ). low ≡ least (λ k. leb (n * 1000000) (chance p 0 k).upper) b.ceiling) enough (c.first-reached-low.ensures.tells held.levels held.bounds),
-        subst (λ (n : ℕ). high ≡ least (λ k. leb (n * 1000000) (chance p 0 k).lower) b.ceiling) enough (c.first-reached-high.ensures.tells held.levels held.bounds),
+        subst (λ (n : ℕ). low ≡ least (λ k. leb (n * 1000000) (chance p 0 k).upper) b.ceiling) enough (c.first_reached-low.ensures.tells held.levels held.bounds),
+        subst (λ (n : ℕ). high ≡ least (λ k. leb (n * 1000000) (chance p 0 k).lower) b.ceiling) enough (c.first_reached-high.ensures.tells held.levels held.bounds),
       );
     }

@@ -8,9 +8,9 @@ use Rattle.book.proofs.Keys.{distinct_without}
 use Rattle.book.proofs.Rebuilds.{held_fits, struck_fits}
 use Rattle.book.proofs.book.Book.strike.Goals as goal
 
-pub returns-in-default : goal.returns-in-default
-returns-in-default g c =
-    let none : holds_key c.args.key (listed c.args.self.now).contracts ≡ false = absent c.args.key (listed c.args.self.now).contracts c.in-default.ensures.place in
+pub returns-in_default : goal.returns-in_default
+returns-in_default g c =
+    let none : holds_key c.args.key (listed c.args.self.now).contracts ≡ false = absent c.args.key (listed c.args.self.now).contracts c.in_default.ensures.place in
     record {
       declines = search rules;
       list = search rules;
@@ -41,10 +41,10 @@ returns g c =
       unchanged = tt;
     }
 
-pub invariant-of-self : goal.invariant-of-self
-invariant-of-self g c =
+pub invariant_of-self : goal.invariant_of-self
+invariant_of-self g c =
     let b = c.args.self.now in
     let k = c.args.key in
     let are = struck_list k b.shares.count c.in-Some.place (vec_items b.contracts) (vec_items c.remove.new.self) c.remove.ensures.items c.in-Some.ensures.place in
     let own = ap distinct_keys are ∙ distinct_without k (listed b).contracts b.own_keys in
-    (search rules, (search rules, (search rules, (search rules, (search rules, (search rules, (own, tt)))))))
+    record { few = search rules; room = search rules; some_ceiling = search rules; low_ceiling = search rules; few_places = search rules; inside = search rules; own_keys = own }
