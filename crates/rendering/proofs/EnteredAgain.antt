@@ -3,7 +3,7 @@ use Rattle.std.proofs.Common.{◌≡◌, ℕ, zero, suc, ◌+◌, ◌*◌, ◌<�
 use Rattle.std.specs.List.{AllByRecursion as All}
 use Rattle.std.proofs.ByRecursion.{All-get_or}
 use Rattle.std.proofs.lemmas.List.{length-take-le, map_more, take-map}
-use Rattle.std.proofs.lemmas.Bool.{cases_Bool, cond-false, and_parts, and_from, or_from, not_true, not_from_true, le-leb, lt-leb, le-ltb, eq-eqb, ne_eqb, eqb-false, both_ways}
+use Rattle.std.proofs.lemmas.Bool.{cases_Bool, cond-false, and_parts, and_from, or_from, not-true, not_from_true, le-leb, lt-leb, le-ltb, eq-eqb, ne_eqb, eqb-false, both_ways}
 use Rattle.reckoning.specs.Outcomes.{outside}
 use Rattle.book.specs.Declines.{Handed, short, places_wrong, open_sentences, enter_sentences}
 use Rattle.book.specs.Lawful.{LawfulEntry, Lawful}
@@ -58,7 +58,7 @@ new_key (x ∷ es) (suc i) d l e =
     let both = and_parts (not (holds_key x.key es)) (distinct_keys es) e in
     let k = (get_or es i d).key in
     or_from (same_key x.key k) (holds_key k (take i es))
-    (other_key k x.key (none_at (λ (y : Entry). same_key y.key x.key) es i d (omega arith) (not_true (holds_key x.key es) both.0)))
+    (other_key k x.key (none_at (λ (y : Entry). same_key y.key x.key) es i d (omega arith) (not-true (holds_key x.key es) both.0)))
     (new_key es i d (omega arith) both.1)
 
 -- the losses of a front and of the contract behind it

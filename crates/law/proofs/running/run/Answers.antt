@@ -18,16 +18,16 @@ returns g c =
     let v = length c.args.values.now in
     let x = state c.args.book.now c.args.levels.now c.args.bounds.now c.args.values.now in
     let y = state c.open.new.self c.open.new.levels c.open.new.bounds c.open.new.values in
-    let z = state c.carry-out.new.book c.carry-out.new.levels c.carry-out.new.bounds c.carry-out.new.values in
+    let z = state c.carry_out.new.book c.carry_out.new.levels c.carry_out.new.bounds c.carry_out.new.values in
     let same : handed (length c.open.new.levels) (length c.open.new.bounds) (length c.open.new.values) ≡ handed l b v =
     ap (λ (n : ℕ). handed n (length c.open.new.bounds) (length c.open.new.values)) c.open.auto.levels
     ∙ ap (λ (n : ℕ). handed l n (length c.open.new.values)) c.open.auto.bounds
     ∙ ap (λ (n : ℕ). handed l b n) c.open.auto.values in
-    let opens = c.in-ok-open.ensures in
+    let opens = c.in_ok-open.ensures in
     record {
-      count = c.carry-out.ensures.count;
+      count = c.carry_out.ensures.count;
       law =
-          subst (λ (n : ℕ). Law ops stands (handed l b v) c.args.ceiling c.args.shares.now None (take n c.args.calls.now) x z c.args.answers.now c.carry-out.new.answers) c.carry-out.ensures.count
-          (law_run ops stands means (handed l b v) c.args.ceiling c.args.shares.now (take c.carry-out.result c.args.calls.now) x y z c.args.answers.now c.carry-out.new.answers
-          opens.declines (opens.list refl) (opens.holds refl) (opens.keeps refl) _ same c.carry-out.ensures.carried);
+          subst (λ (n : ℕ). Law ops stands (handed l b v) c.args.ceiling c.args.shares.now None (take n c.args.calls.now) x z c.args.answers.now c.carry_out.new.answers) c.carry_out.ensures.count
+          (law_run ops stands means (handed l b v) c.args.ceiling c.args.shares.now (take c.carry_out.result c.args.calls.now) x y z c.args.answers.now c.carry_out.new.answers
+          opens.declines (opens.list refl) (opens.holds refl) (opens.keeps refl) _ same c.carry_out.ensures.carried);
     }

@@ -7,8 +7,8 @@ use Rattle.rendering.proofs.digits.put_number.Goals as goal
 pub returns : goal.returns
 returns c =
     record {
-      value = omega (arith, c.digit-count-count.ensures.value);
-      after = c.put-padded.ensures.after
-          ∙ ap (λ (k : ℕ). written c.args.out.now c.args.from (padded k c.args.n)) c.digit-count-count.ensures.value
+      value = omega (arith, c.digit_count-count.ensures.value);
+      after = c.put_padded.ensures.after
+          ∙ ap (λ (k : ℕ). written c.args.out.now c.args.from (padded k c.args.n)) c.digit_count-count.ensures.value
           ∙ ap (written c.args.out.now c.args.from) (sym (decimal_padded c.args.n (omega arith)));
     }

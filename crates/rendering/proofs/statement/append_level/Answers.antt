@@ -7,10 +7,10 @@ use Rattle.rendering.proofs.statement.append_level.Goals as goal
 pub unreachable-requires : goal.unreachable-requires
 unreachable-requires c = let fits = level_fits c.args.level c.args.lower c.args.upper (omega arith) (omega arith) (omega arith) in let short = c.in_default.ensures.tells.0 in omega arith
 
-pub returns-in-err-extend-from-slice : goal.returns-in-err-extend-from-slice
-returns-in-err-extend-from-slice c = search (rules, IfOk-from_err)
+pub returns-in_err-extend_from_slice : goal.returns-in_err-extend_from_slice
+returns-in_err-extend_from_slice c = search (rules, IfOk-from_err)
 
 pub returns : goal.returns
 returns c =
     let told = c.in-Ok.ensures.tells in
-    told_appended (vec_items c.args.text.now) c.level-line.new.out _ (level_text c.args.level c.args.lower c.args.upper) c.in-Ok.length told.0 told.2 (vec_items c.extend-from-slice.new.self) c.in-ok-extend-from-slice.ensures.items
+    told_appended (vec_items c.args.text.now) c.level_line.new.out _ (level_text c.args.level c.args.lower c.args.upper) c.in-Ok.length told.0 told.2 (vec_items c.extend_from_slice.new.self) c.in_ok-extend_from_slice.ensures.items

@@ -27,14 +27,14 @@ table-requires c =
       holds = whole.entered.holds;
     }
 
-pub returns-in-err-text : goal.returns-in-err-text
-returns-in-err-text c = search (rules, IfOk-from_err)
+pub returns-in_err-text-in-Ok : goal.returns-in_err-text-in-Ok
+returns-in_err-text-in-Ok c = search (rules, IfOk-from_err)
 
-pub returns-in-err-append-refusal : goal.returns-in-err-append-refusal
-returns-in-err-append-refusal c = search (rules, IfOk-from_err)
+pub returns-in_err-append_refusal-in-Err : goal.returns-in_err-append_refusal-in-Err
+returns-in_err-append_refusal-in-Err c = search (rules, IfOk-from_err)
 
-pub returns-in-ok-text : goal.returns-in-ok-text
-returns-in-ok-text c =
+pub returns-in_ok-text-in-Ok : goal.returns-in_ok-text-in-Ok
+returns-in_ok-text-in-Ok c =
     let x = state c.args.book.now c.args.levels.now c.args.bounds.now c.args.values.now in
     let y = state c.read.new.book c.read.new.levels c.read.new.bounds c.read.new.values in
     let answer = Ok c.in-Ok.field-0 in
@@ -44,11 +44,11 @@ returns-in-ok-text c =
       answer = answer;
       empty = c.requires.empty;
       reads = read_over c.args.file.now x y (length c.args.levels.now) (length c.args.bounds.now) (length c.args.values.now) answer c.requires.places.0 c.requires.places.1.0 c.requires.places.1.1 c.in-Ok.ensures.reads;
-      says = (refl, c.in-ok-text.ensures);
+      says = (refl, c.in_ok-text-in-Ok.ensures);
     }
 
-pub returns-in-ok-append-refusal : goal.returns-in-ok-append-refusal
-returns-in-ok-append-refusal c =
+pub returns-in_ok-append_refusal-in-Err : goal.returns-in_ok-append_refusal-in-Err
+returns-in_ok-append_refusal-in-Err c =
     let x = state c.args.book.now c.args.levels.now c.args.bounds.now c.args.values.now in
     let y = state c.read.new.book c.read.new.levels c.read.new.bounds c.read.new.values in
     let answer = Err c.in-Err.fault in
@@ -60,7 +60,7 @@ returns-in-ok-append-refusal c =
       reads = read_over c.args.file.now x y (length c.args.levels.now) (length c.args.bounds.now) (length c.args.values.now) answer c.requires.places.0 c.requires.places.1.0 c.requires.places.1.1 c.in-Err.ensures.reads;
       says = (
         refl,
-        c.in-ok-append-refusal.ensures
+        c.in_ok-append_refusal-in-Err.ensures
             ∙ ap (λ (t : List ℕ). t ++ refusal_text c.number.result c.place.result) c.new-text.ensures.items
             ∙ ap (λ (n : ℕ). refusal_text n c.place.result) c.number.ensures
             ∙ ap (refusal_text (telling c.in-Err.fault).number) c.place.ensures,

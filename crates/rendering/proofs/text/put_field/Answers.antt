@@ -6,6 +6,6 @@ pub returns : goal.returns
 returns c =
     record {
       value = omega arith;
-      after = written_more c.args.out.now c.put-number-behind.new.out _ c.args.from c.put-number-behind.result (decimal c.args.n) c.args.next.now
-          (omega arith) c.put-number-behind.ensures.value c.put-number-behind.ensures.after c.put-bytes.ensures.after;
+      after = written_more c.args.out.now c.put_number-behind.new.out _ c.args.from c.put_number-behind.result (decimal c.args.n) c.args.next.now
+          (omega arith) c.put_number-behind.ensures.value c.put_number-behind.ensures.after c.put_bytes.ensures.after;
     }

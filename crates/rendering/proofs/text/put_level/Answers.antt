@@ -2,20 +2,20 @@ use Rattle.std.proofs.Common.{ℕ, length, decimal, ap, arith}
 use Rattle.rendering.proofs.Tellings.{length_level_text, level_put}
 use Rattle.rendering.proofs.text.put_level.Goals as goal
 
-pub put-field-behind-level-requires : goal.put-field-behind-level-requires
-put-field-behind-level-requires c =
+pub put_field-behind_level-requires : goal.put_field-behind_level-requires
+put_field-behind_level-requires c =
     let l = length_level_text c.args.level c.args.lower c.args.upper in
     let n = ap (λ (m : ℕ). length (decimal m)) c.from.ensures in
     record { fits = omega arith }
 
-pub put-field-behind-lower-requires : goal.put-field-behind-lower-requires
-put-field-behind-lower-requires c =
+pub put_field-behind_lower-requires : goal.put_field-behind_lower-requires
+put_field-behind_lower-requires c =
     let l = length_level_text c.args.level c.args.lower c.args.upper in
     let n = ap (λ (m : ℕ). length (decimal m)) c.from.ensures in
     record { fits = omega arith }
 
-pub put-field-requires : goal.put-field-requires
-put-field-requires c =
+pub put_field-requires : goal.put_field-requires
+put_field-requires c =
     let l = length_level_text c.args.level c.args.lower c.args.upper in
     let n = ap (λ (m : ℕ). length (decimal m)) c.from.ensures in
     record { fits = omega arith }
@@ -23,10 +23,10 @@ put-field-requires c =
 pub returns : goal.returns
 returns c =
     record {
-      after = level_put c.args.out.now c.put-field-behind-level.new.out c.put-field-behind-lower.new.out c.put-field.new.out
+      after = level_put c.args.out.now c.put_field-behind_level.new.out c.put_field-behind_lower.new.out c.put_field.new.out
           c.from.result c.args.level c.args.lower c.args.upper
-          c.put-field-behind-level.result c.put-field-behind-lower.result c.put-field.result c.from.ensures
-          c.put-field-behind-level.ensures.after c.put-field-behind-level.ensures.value
-          c.put-field-behind-lower.ensures.after c.put-field-behind-lower.ensures.value
-          c.put-field.ensures.after c.put-field.ensures.value;
+          c.put_field-behind_level.result c.put_field-behind_lower.result c.put_field.result c.from.ensures
+          c.put_field-behind_level.ensures.after c.put_field-behind_level.ensures.value
+          c.put_field-behind_lower.ensures.after c.put_field-behind_lower.ensures.value
+          c.put_field.ensures.after c.put_field.ensures.value;
     }

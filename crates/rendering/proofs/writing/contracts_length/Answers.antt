@@ -12,12 +12,12 @@ pub loop-contract-preserved : goal.loop-contract-preserved
 loop-contract-preserved c =
     let n = c.args.scenarios in
     let contract = c.contract-item.result in
-    let numbers = c.numbers-of-numbers.result in
+    let numbers = c.numbers_of-numbers.result in
     let i = c.loop-contract.contract-index in
     let m = length_lines_more 67 (λ (x : Contract). numbers_of (entry_of n x)) c.args.contracts.now i contract contract c.loop-contract-test.true c.contract-item.is in
     let l = length_line_text 67 (numbers_of (entry_of n contract)) in
     let z : n + 2 - 0 ≡ n + 2 = omega arith in
-    let same = ap (λ (ns : List ℕ). length (numbers_text ns)) (ap (λ (k : ℕ). take k numbers) z ∙ c.numbers-of-numbers.ensures.value) in
+    let same = ap (λ (ns : List ℕ). length (numbers_text ns)) (ap (λ (k : ℕ). take k numbers) z ∙ c.numbers_of-numbers.ensures.value) in
     let few = length-take-le (n + 2 - 0) numbers (omega arith) in
     (omega arith, omega arith)
 

@@ -7,8 +7,8 @@ use Rattle.rendering.proofs.writing.put_shares.Goals as goal
 pub loop-share-init : goal.loop-share-init
 loop-share-init c = (refl, sym (written_nothing c.args.out.now 0))
 
-pub put-line-at-requires : goal.put-line-at-requires
-put-line-at-requires c =
+pub put_line-at-requires : goal.put_line-at-requires
+put_line-at-requires c =
     let shares = c.args.shares.now in
     let i = c.loop-share.share-index in
     let room = next_line_has_room 83 (λ (w : ℕ). w ∷ []) shares i (get_or shares i 0) 0 c.loop-share-test.true refl in
@@ -18,8 +18,8 @@ pub loop-share-preserved : goal.loop-share-preserved
 loop-share-preserved c =
     let shares = c.args.shares.now in
     let i = c.loop-share.share-index in
-    let put = one_line_put 83 (λ (w : ℕ). w ∷ []) shares i c.args.out.now c.loop-share.out c.put-line-at.new.out 0 c.loop-share.at c.put-line-at.result (get_or shares i 0) 0
-    c.loop-share-test.true refl (omega arith) (omega arith) c.loop-share.invariant.1 c.put-line-at.ensures.value c.put-line-at.ensures.after in
+    let put = one_line_put 83 (λ (w : ℕ). w ∷ []) shares i c.args.out.now c.loop-share.out c.put_line-at.new.out 0 c.loop-share.at c.put_line-at.result (get_or shares i 0) 0
+    c.loop-share-test.true refl (omega arith) (omega arith) c.loop-share.invariant.1 c.put_line-at.ensures.value c.put_line-at.ensures.after in
     (omega arith, put.1)
 
 pub returns : goal.returns

@@ -7,6 +7,6 @@ pub returns : goal.returns
 returns c =
     record {
       value = omega arith;
-      after = written_more c.args.out.now c.put-bytes-behind.new.out _ c.args.from c.put-bytes-behind.result (32 ∷ []) (padded c.args.count c.args.n)
-          (omega arith) c.put-bytes-behind.ensures.value c.put-bytes-behind.ensures.after c.put-padded.ensures.after;
+      after = written_more c.args.out.now c.put_bytes-behind.new.out _ c.args.from c.put_bytes-behind.result (32 ∷ []) (padded c.args.count c.args.n)
+          (omega arith) c.put_bytes-behind.ensures.value c.put_bytes-behind.ensures.after c.put_padded.ensures.after;
     }

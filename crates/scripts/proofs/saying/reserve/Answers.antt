@@ -7,6 +7,6 @@ returns c =
     let low = level_said c.args.low in
     let high = level_said c.args.high in
     let first : string_bytes c.push.new.self ≡ low ++ (32 ∷ []) =
-    c.in-ok-push.ensures.bytes ∙ ap (λ (bs : List ℕ). string_bytes c.in-ok-text.text ++ bs) (c.in-ok-push.ensures.ascii (omega arith)) ∙ ap (λ (bs : List ℕ). bs ++ (32 ∷ [])) c.in-ok-text.ensures in
-    let last = c.as-str.ensures.value ∙ c.in-ok-high.ensures in
-    c.in-ok-push-str.ensures.bytes ∙ ap (λ (bs : List ℕ). bs ++ c.as-str.result.now) first ∙ ap (λ (bs : List ℕ). (low ++ (32 ∷ [])) ++ bs) last ∙ append_assoc low (32 ∷ []) high
+    c.in_ok-push.ensures.bytes ∙ ap (λ (bs : List ℕ). string_bytes c.in_ok-text.text ++ bs) (c.in_ok-push.ensures.ascii (omega arith)) ∙ ap (λ (bs : List ℕ). bs ++ (32 ∷ [])) c.in_ok-text.ensures in
+    let last = c.as_str.ensures.value ∙ c.in_ok-high.ensures in
+    c.in_ok-push_str.ensures.bytes ∙ ap (λ (bs : List ℕ). bs ++ c.as_str.result.now) first ∙ ap (λ (bs : List ℕ). (low ++ (32 ∷ [])) ++ bs) last ∙ append_assoc low (32 ∷ []) high

@@ -7,20 +7,20 @@ use Rattle.tariff.proofs.reading.check_form.Goals as goal
 pub returns-in_default : goal.returns-in_default
 returns-in_default c = (record { least = omega arith; most = omega arith }, refl, no_trailer c.args.file.now c.in_default.ensures.reads)
 
-pub returns-in-err-read-shares : goal.returns-in-err-read-shares
-returns-in-err-read-shares c =
+pub returns-in_err-read_shares : goal.returns-in_err-read_shares
+returns-in_err-read_shares c =
     let file = c.args.file.now in
     let t = c.in-Some.trailer in
     let read = c.in-Some.ensures.reads in
     let ends = ends_in file t (record { least = omega arith; most = omega arith }) read in
     let n = length (take (t.scenarios - 0) c.args.shares.now) in
     let size : n ≡ t.scenarios = omega (arith, read.scenarios_fit, length-take (t.scenarios - 0) c.args.shares.now) in
-    let p = err_from_is_err_and c.from-residual.result c.from-residual.ensures.1 in
-    let wrong = subst (SharesWrong (body_part file) n t.place) (sym p.2) c.in-err-read-shares.ensures in
+    let p = err_from_is_err_and c.from_residual.result c.from_residual.ensures.1 in
+    let wrong = subst (SharesWrong (body_part file) n t.place) (sym p.2) c.in_err-read_shares.ensures in
     rw p.1 (shares_fault file t ends n p.0 size wrong)
 
-pub returns-in-err-lines : goal.returns-in-err-lines
-returns-in-err-lines c =
+pub returns-in_err-lines : goal.returns-in_err-lines
+returns-in_err-lines c =
     let file = c.args.file.now in
     let t = c.in-Some.trailer in
     let read = c.in-Some.ensures.reads in
@@ -28,9 +28,9 @@ returns-in-err-lines c =
     let n = length (take (t.scenarios - 0) c.args.shares.now) in
     let size : n ≡ t.scenarios = omega (arith, read.scenarios_fit, length-take (t.scenarios - 0) c.args.shares.now) in
     let shares = c.read_shares.new.shares in
-    let before = begins file t ends n shares size c.in-ok-read-shares.ensures in
-    let p = err_from_is_err_and c.from-residual-in-err-lines.result c.from-residual-in-err-lines.ensures.1 in
-    rw (p.1, p.2) (contract_fault file t shares before c.in-err-lines.field-0.0 c.in-err-lines.ensures)
+    let before = begins file t ends n shares size c.in_ok-read_shares.ensures in
+    let p = err_from_is_err_and c.from_residual-in_err-lines.result c.from_residual-in_err-lines.ensures.1 in
+    rw (p.1, p.2) (contract_fault file t shares before c.in_err-lines.field-0.0 c.in_err-lines.ensures)
 
 pub returns-then-lines-trailer : goal.returns-then-lines-trailer
 returns-then-lines-trailer c =
@@ -41,8 +41,8 @@ returns-then-lines-trailer c =
     let n = length (take (t.scenarios - 0) c.args.shares.now) in
     let size : n ≡ t.scenarios = omega (arith, read.scenarios_fit, length-take (t.scenarios - 0) c.args.shares.now) in
     let shares = c.read_shares.new.shares in
-    let before = begins file t ends n shares size c.in-ok-read-shares.ensures in
-    count_fault file t shares before c.in-ok-lines.lines c.in-ok-lines.ensures (λ same. omega arith)
+    let before = begins file t ends n shares size c.in_ok-read_shares.ensures in
+    count_fault file t shares before c.in_ok-lines.lines c.in_ok-lines.ensures (λ same. omega arith)
 
 pub returns : goal.returns
 returns c =
@@ -53,5 +53,5 @@ returns c =
     let n = length (take (t.scenarios - 0) c.args.shares.now) in
     let size : n ≡ t.scenarios = omega (arith, read.scenarios_fit, length-take (t.scenarios - 0) c.args.shares.now) in
     let shares = c.read_shares.new.shares in
-    let before = begins file t ends n shares size c.in-ok-read-shares.ensures in
-    formed file t shares before c.in-ok-lines.lines _ c.in-ok-lines.ensures (omega arith)
+    let before = begins file t ends n shares size c.in_ok-read_shares.ensures in
+    formed file t shares before c.in_ok-lines.lines _ c.in_ok-lines.ensures (omega arith)

@@ -9,35 +9,35 @@ use Rattle.tariff.proofs.reading.count_contracts.Goals as goal
 pub loop-place-init : goal.loop-place-init
 loop-place-init c = (omega arith, omega arith, refl, counted_none c.args.count (omega arith) c.args.part.now)
 
-pub returns-in-err-place : goal.returns-in-err-place
-returns-in-err-place c =
+pub returns-in_err-place : goal.returns-in_err-place
+returns-in_err-place c =
     let part = c.args.part.now in
     let place = c.loop-place.place in
-    let p = err_from_is_err_and c.from-residual.result c.from-residual.ensures.1 in
-    let ns = c.contract-line.new.numbers in
-    let kept = c.contract-line.auto.numbers in
+    let p = err_from_is_err_and c.from_residual.result c.from_residual.ensures.1 in
+    let ns = c.contract_line.new.numbers in
+    let kept = c.contract_line.auto.numbers in
     let all = c.loop-place.invariant.2 in
     let size : length ns ≡ c.args.count = omega (arith, kept, length-take (c.args.count - 0) c.loop-place.numbers) in
-    let wrong = subst (λ (e : LineFault). ReadsContract part c.args.base place ns (Err e)) (sym p.2) c.in-err-place.ensures in
+    let wrong = subst (λ (e : LineFault). ReadsContract part c.args.base place ns (Err e)) (sym p.2) c.in_err-place.ensures in
     rw p.1 (counted_wrong c.args.count (omega arith) part c.args.base place c.loop-place.lines ns p.0 c.loop-place.invariant.3 (omega arith) size wrong)
 
 pub loop-place-preserved : goal.loop-place-preserved
 loop-place-preserved c =
     let part = c.args.part.now in
     let count = c.args.count in
-    let ns = c.contract-line.new.numbers in
-    let r = c.in-ok-place.ensures in
+    let ns = c.contract_line.new.numbers in
+    let r = c.in_ok-place.ensures in
     let inv = c.loop-place.invariant in
-    let kept = c.contract-line.auto.numbers in
+    let kept = c.contract_line.auto.numbers in
     let all = inv.2 in
     let size : length ns ≡ count = omega (arith, kept, length-take (count - 0) c.loop-place.numbers) in
     let long = length_line_text 67 ns in
-    (omega (arith, r.2), omega (arith, r.1), simp length-append (omega (arith, size, length-drop (count - 0) c.loop-place.numbers)), counted_more count (omega arith) part c.loop-place.place c.in-ok-place.place c.loop-place.lines ns inv.3 size r)
+    (omega (arith, r.2), omega (arith, r.1), simp length-append (omega (arith, size, length-drop (count - 0) c.loop-place.numbers)), counted_more count (omega arith) part c.loop-place.place c.in_ok-place.place c.loop-place.lines ns inv.3 size r)
 
 pub loop-place-smaller : goal.loop-place-smaller
 loop-place-smaller c =
-    let r = c.in-ok-place.ensures in
-    let long = length_line_text 67 c.contract-line.new.numbers in
+    let r = c.in_ok-place.ensures in
+    let long = length_line_text 67 c.contract_line.new.numbers in
     omega (arith, r.1, r.2)
 
 pub returns : goal.returns

@@ -13,20 +13,20 @@ loop-place-init g c =
     let x = state c.args.book.now c.args.levels.now c.args.bounds.now c.args.values.now in
     so_far_none g.R.Reckoning.operations h c.args.part.now c.args.count (omega arith) x c.requires.part.1.1.1 c.requires.empty c.requires.holds
 
-pub returns-in-err-place : goal.returns-in-err-place
-returns-in-err-place g c =
+pub returns-in_err-place : goal.returns-in_err-place
+returns-in_err-place g c =
     let l = length c.args.levels.now in
     let b = length c.args.bounds.now in
     let v = length c.args.values.now in
     let x = state c.args.book.now c.args.levels.now c.args.bounds.now c.args.values.now in
     let y = state c.loop-place.book c.loop-place.levels c.loop-place.bounds c.loop-place.values in
-    let z = state c.enter-line.new.book c.enter-line.new.levels c.enter-line.new.bounds c.enter-line.new.values in
+    let z = state c.enter_line.new.book c.enter_line.new.levels c.enter_line.new.bounds c.enter_line.new.values in
     let same : handed (length c.loop-place.levels) (length c.loop-place.bounds) (length c.loop-place.values) ≡ handed l b v =
     ap (λ (n : ℕ). handed n (length c.loop-place.bounds) (length c.loop-place.values)) c.loop-place.auto.levels
     ∙ ap (λ (n : ℕ). handed l n (length c.loop-place.values)) c.loop-place.auto.bounds
     ∙ ap (λ (n : ℕ). handed l b n) c.loop-place.auto.values in
-    let p = err_from_is_err_and c.from-residual.result c.from-residual.ensures.1 in
-    rw (p.1, p.2) (part_declined g.R.Reckoning.operations (handed l b v) c.args.part.now c.args.count (omega arith) x c.args.base c.loop-place.place y z _ c.in-err-place.field-0.0 same c.loop-place.invariant c.in-err-place.ensures)
+    let p = err_from_is_err_and c.from_residual.result c.from_residual.ensures.1 in
+    rw (p.1, p.2) (part_declined g.R.Reckoning.operations (handed l b v) c.args.part.now c.args.count (omega arith) x c.args.base c.loop-place.place y z _ c.in_err-place.field-0.0 same c.loop-place.invariant c.in_err-place.ensures)
 
 pub loop-place-preserved : goal.loop-place-preserved
 loop-place-preserved g c =
@@ -35,19 +35,19 @@ loop-place-preserved g c =
     let v = length c.args.values.now in
     let x = state c.args.book.now c.args.levels.now c.args.bounds.now c.args.values.now in
     let y = state c.loop-place.book c.loop-place.levels c.loop-place.bounds c.loop-place.values in
-    let z = state c.enter-line.new.book c.enter-line.new.levels c.enter-line.new.bounds c.enter-line.new.values in
+    let z = state c.enter_line.new.book c.enter_line.new.levels c.enter_line.new.bounds c.enter_line.new.values in
     let same : handed (length c.loop-place.levels) (length c.loop-place.bounds) (length c.loop-place.values) ≡ handed l b v =
     ap (λ (n : ℕ). handed n (length c.loop-place.bounds) (length c.loop-place.values)) c.loop-place.auto.levels
     ∙ ap (λ (n : ℕ). handed l n (length c.loop-place.values)) c.loop-place.auto.bounds
     ∙ ap (λ (n : ℕ). handed l b n) c.loop-place.auto.values in
-    so_far_more g.R.Reckoning.operations (handed l b v) c.args.part.now c.args.count (omega arith) x c.args.base c.loop-place.place c.in-ok-place.place y z _ same c.loop-place.invariant c.in-ok-place.ensures
+    so_far_more g.R.Reckoning.operations (handed l b v) c.args.part.now c.args.count (omega arith) x c.args.base c.loop-place.place c.in_ok-place.place y z _ same c.loop-place.invariant c.in_ok-place.ensures
 
 pub loop-place-smaller : goal.loop-place-smaller
 loop-place-smaller g c =
-    let line = c.in-ok-place.ensures.1 in
+    let line = c.in_ok-place.ensures.1 in
     let end = line.end in
     let inside = line.inside in
-    let long = length_line_text 67 (numbers_of c.in-ok-place.ensures.0) in
+    let long = length_line_text 67 (numbers_of c.in_ok-place.ensures.0) in
     omega arith
 
 pub returns : goal.returns

@@ -8,43 +8,43 @@ use Rattle.tariff.proofs.Declined.{read_comes, read_unchanged}
 use Rattle.tariff.proofs.Filing.{form_declined, opening_declined, lines_from_contracts, read_entered, part_length}
 use Rattle.tariff.proofs.reading.read.Goals as goal
 
-pub returns-in-err-trailer : goal.returns-in-err-trailer
-returns-in-err-trailer g c =
+pub returns-in_err-trailer : goal.returns-in_err-trailer
+returns-in_err-trailer g c =
     let ops = g.R.Reckoning.operations in
     let h = handed (length c.args.levels.now) (length c.args.bounds.now) (length c.args.values.now) in
     let x = state c.args.book.now c.args.levels.now c.args.bounds.now c.args.values.now in
     let file = c.args.file.now in
-    let r = c.from-residual.result in
-    let p = err_from_is_err_and r c.from-residual.ensures.1 in
-    let reads = form_declined ops h file x r p.0 c.in-err-trailer.field-0.0 p.1 p.2 c.in-err-trailer.ensures in
+    let r = c.from_residual.result in
+    let p = err_from_is_err_and r c.from_residual.ensures.1 in
+    let reads = form_declined ops h file x r p.0 c.in_err-trailer.field-0.0 p.1 p.2 c.in_err-trailer.ensures in
     record { reads = reads; comes = read_comes ops h file x x r reads; unchanged = read_unchanged ops h file x x r reads }
 
-pub returns-in-err-open-for : goal.returns-in-err-open-for
-returns-in-err-open-for g c =
+pub returns-in_err-open_for : goal.returns-in_err-open_for
+returns-in_err-open_for g c =
     let ops = g.R.Reckoning.operations in
     let h = handed (length c.args.levels.now) (length c.args.bounds.now) (length c.args.values.now) in
     let x = state c.args.book.now c.args.levels.now c.args.bounds.now c.args.values.now in
-    let y = state c.open-for.new.book c.open-for.new.levels c.open-for.new.bounds c.open-for.new.values in
+    let y = state c.open_for.new.book c.open_for.new.levels c.open_for.new.bounds c.open_for.new.values in
     let file = c.args.file.now in
-    let t = c.in-ok-trailer.trailer in
-    let formed = c.in-ok-trailer.ensures in
+    let t = c.in_ok-trailer.trailer in
+    let formed = c.in_ok-trailer.ensures in
     let whole : t.scenarios ≡ t.scenarios - 0 = omega arith in
-    let form = subst (λ (k : ℕ). Form file t (take k c.check-form.new.shares) formed.0) whole formed.1 in
-    let r = c.from-residual-in-err-open-for.result in
-    let p = err_from_is_err_and r c.from-residual-in-err-open-for.ensures.1 in
-    let shares = take (t.scenarios - 0) c.check-form.new.shares in
-    let reads = opening_declined ops h file t shares formed.0 form x y r p.0 c.in-err-open-for.field-0.0 p.1 p.2 c.in-err-open-for.ensures in
+    let form = subst (λ (k : ℕ). Form file t (take k c.check_form.new.shares) formed.0) whole formed.1 in
+    let r = c.from_residual-in_err-open_for.result in
+    let p = err_from_is_err_and r c.from_residual-in_err-open_for.ensures.1 in
+    let shares = take (t.scenarios - 0) c.check_form.new.shares in
+    let reads = opening_declined ops h file t shares formed.0 form x y r p.0 c.in_err-open_for.field-0.0 p.1 p.2 c.in_err-open_for.ensures in
     record { reads = reads; comes = read_comes ops h file x y r reads; unchanged = read_unchanged ops h file x y r reads }
 
-pub enter-contracts-requires : goal.enter-contracts-requires
-enter-contracts-requires g c =
+pub enter_contracts-requires : goal.enter_contracts-requires
+enter_contracts-requires g c =
     let file = c.args.file.now in
-    let t = c.in-ok-trailer.trailer in
-    let shares = take t.scenarios c.check-form.new.shares in
-    let formed = c.in-ok-trailer.ensures in
+    let t = c.in_ok-trailer.trailer in
+    let shares = take t.scenarios c.check_form.new.shares in
+    let formed = c.in_ok-trailer.ensures in
     let form = formed.1 in
     let ends = form.whole.before.ends in
-    let opened = c.in-ok-open-for.ensures in
+    let opened = c.in_ok-open_for.ensures in
     let few = ends.trailer.scenarios_fit in
     let most = ends.long.most in
     record {
@@ -61,17 +61,17 @@ returns g c =
     let v = length c.args.values.now in
     let h = handed l b v in
     let x = state c.args.book.now c.args.levels.now c.args.bounds.now c.args.values.now in
-    let y = state c.open-for.new.book c.open-for.new.levels c.open-for.new.bounds c.open-for.new.values in
-    let z = state c.enter-contracts.new.book c.enter-contracts.new.levels c.enter-contracts.new.bounds c.enter-contracts.new.values in
-    let same : handed (length c.open-for.new.levels) (length c.open-for.new.bounds) (length c.open-for.new.values) ≡ h =
-    ap (λ (n : ℕ). handed n (length c.open-for.new.bounds) (length c.open-for.new.values)) c.open-for.auto.levels
-    ∙ ap (λ (n : ℕ). handed l n (length c.open-for.new.values)) c.open-for.auto.bounds
-    ∙ ap (λ (n : ℕ). handed l b n) c.open-for.auto.values in
+    let y = state c.open_for.new.book c.open_for.new.levels c.open_for.new.bounds c.open_for.new.values in
+    let z = state c.enter_contracts.new.book c.enter_contracts.new.levels c.enter_contracts.new.bounds c.enter_contracts.new.values in
+    let same : handed (length c.open_for.new.levels) (length c.open_for.new.bounds) (length c.open_for.new.values) ≡ h =
+    ap (λ (n : ℕ). handed n (length c.open_for.new.bounds) (length c.open_for.new.values)) c.open_for.auto.levels
+    ∙ ap (λ (n : ℕ). handed l n (length c.open_for.new.values)) c.open_for.auto.bounds
+    ∙ ap (λ (n : ℕ). handed l b n) c.open_for.auto.values in
     let file = c.args.file.now in
-    let t = c.in-ok-trailer.trailer in
-    let formed = c.in-ok-trailer.ensures in
+    let t = c.in_ok-trailer.trailer in
+    let formed = c.in_ok-trailer.ensures in
     let whole : t.scenarios ≡ t.scenarios - 0 = omega arith in
-    let form = subst (λ (k : ℕ). Form file t (take k c.check-form.new.shares) formed.0) whole formed.1 in
-    let r = c.enter-contracts.result in
-    let reads = read_entered ops h file t (take (t.scenarios - 0) c.check-form.new.shares) formed.0 form x y c.in-ok-open-for.ensures _ z r same c.enter-contracts.ensures in
+    let form = subst (λ (k : ℕ). Form file t (take k c.check_form.new.shares) formed.0) whole formed.1 in
+    let r = c.enter_contracts.result in
+    let reads = read_entered ops h file t (take (t.scenarios - 0) c.check_form.new.shares) formed.0 form x y c.in_ok-open_for.ensures _ z r same c.enter_contracts.ensures in
     record { reads = reads; comes = read_comes ops h file x z r reads; unchanged = read_unchanged ops h file x z r reads }

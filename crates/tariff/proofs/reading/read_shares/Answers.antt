@@ -9,16 +9,16 @@ use Rattle.tariff.proofs.reading.read_shares.Goals as goal
 pub loop-share-init : goal.loop-share-init
 loop-share-init c = shares_to_none c.args.body.now
 
-pub returns-in-err-value : goal.returns-in-err-value
-returns-in-err-value c =
-    let p = err_from_is_err_and c.from-residual.result c.from-residual.ensures.1 in
-    let wrong = subst (λ (e : FileFault). ReadsDue c.args.body.now c.loop-share.place (Err e)) (sym p.2) c.in-err-value.ensures in
+pub returns-in_err-value : goal.returns-in_err-value
+returns-in_err-value c =
+    let p = err_from_is_err_and c.from_residual.result c.from_residual.ensures.1 in
+    let wrong = subst (λ (e : FileFault). ReadsDue c.args.body.now c.loop-share.place (Err e)) (sym p.2) c.in_err-value.ensures in
     rw p.1 (due_wrong c.args.body.now (length c.args.shares.now) c.args.end c.loop-share.place c.loop-share.share-index c.loop-share.shares p.0 (omega arith) (omega arith) c.loop-share.invariant wrong)
 
 pub loop-share-preserved : goal.loop-share-preserved
 loop-share-preserved c =
-    let read = c.in-ok-value.ensures in
-    shares_to_stored c.args.body.now c.loop-share.place c.in-ok-value.next c.in-ok-value.value c.loop-share.share-index c.loop-share.shares (omega arith) c.loop-share.invariant read.0 read.1 read.2
+    let read = c.in_ok-value.ensures in
+    shares_to_stored c.args.body.now c.loop-share.place c.in_ok-value.next c.in_ok-value.value c.loop-share.share-index c.loop-share.shares (omega arith) c.loop-share.invariant read.0 read.1 read.2
 
 pub returns : goal.returns
 returns c =
