@@ -1,6 +1,6 @@
 -- The outcomes of no greater loss where one contract more has entered.
 use Rattle.std.proofs.Common.{◌≡◌, ℕ, zero, suc, ◌+◌, ◌-◌, ◌<◌, ◌≤◌, Bool, true, false, cond, leb, List, [], ◌∷◌, ◌++◌, length, refl, ap, inl, inr, arith}
-use Rattle.std.specs.List.{AllByRecursion as All}
+use Rattle.std.specs.List.{AllByRecursion}
 use Rattle.std.proofs.lemmas.List.{length_push}
 use Rattle.std.proofs.lemmas.List.Elements.{filter-append}
 use Rattle.std.proofs.ByRecursion.{All-append}
@@ -10,7 +10,7 @@ use Rattle.reckoning.specs.Outcomes.{Outcome, Family, lost, loss, extended, eith
 
 -- outcomes of n contracts
 abbrev pub Sized : ℕ → Family → Type 0
-Sized n os = All (λ o. length o ≡ n) os
+Sized n os = AllByRecursion (λ o. length o ≡ n) os
 
 extended_sized : (n : ℕ) (b : Bool) (os : Family) → Sized n os → Sized (suc n) (extended b os)
 extended_sized n b [] h = tt

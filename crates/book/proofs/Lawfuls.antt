@@ -1,6 +1,6 @@
 -- Every book's list is lawful, by what the types of book, shares, contract, loss and rate keep.
 use Rattle.std.proofs.Common.{◌≡◌, ℕ, zero, suc, ◌<◌, ◌≤◌, Bool, true, false, not, ◌||◌, eqb, List, [], ◌∷◌, map, length, take, vec_items, vec_len, sym, refl, ap, ◌∙◌, subst, arith, length-take-le}
-use Rattle.std.specs.List.{AllByRecursion as All}
+use Rattle.std.specs.List.{AllByRecursion}
 use Rattle.std.proofs.lemmas.List.{length-map}
 use Rattle.std.proofs.lemmas.Bool.{le-ltb, eq-eqb, or_from}
 use Rattle.reckoning.specs.declared.rate.Rate.{Rate}
@@ -32,7 +32,7 @@ lawful_entry n few c = record {
       (ap not (eq-eqb (length (millionths_of (take n c.rates))) n (one_rate_each n c few))) (no_rate_wrong n c.rates);
 }
 
-lawful_entries : (m n : ℕ) → m ≡ n → n ≤ 8 → (cs : List Contract) → All (LawfulEntry m) (map (entry_of n) cs)
+lawful_entries : (m n : ℕ) → m ≡ n → n ≤ 8 → (cs : List Contract) → AllByRecursion (LawfulEntry m) (map (entry_of n) cs)
 lawful_entries m n same few [] = tt
 lawful_entries m n same few (c ∷ cs) = (subst (λ (k : ℕ). LawfulEntry k (entry_of n c)) (sym same) (lawful_entry n few c), lawful_entries m n same few cs)
 

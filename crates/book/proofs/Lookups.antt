@@ -7,7 +7,7 @@ use Rattle.reckoning.specs.Enclosing.{Ranged, checked}
 use Rattle.reckoning.specs.Outcomes.{summed}
 use Rattle.reckoning.specs.Rounding.{pair}
 use Rattle.reckoning.specs.Roundings.{rounded_ranged}
-use Rattle.std.specs.List.{AllByRecursion as All}
+use Rattle.std.specs.List.{AllByRecursion}
 use Rattle.reckoning.specs.Enclosures.{checked_ranged, checked_same}
 use Rattle.book.specs.Merging.{row_of}
 use Rattle.book.specs.Figures.{numbered, mixed, told_at, told_in}
@@ -50,6 +50,6 @@ pub mixed_ranged : (p : ℕ) (rows : List Grains) (n : ℕ) (ws : List ℕ) → 
 mixed_ranged p rows n ws all =
     rounded_ranged 1000000 (omega arith) (λ x. x.0) (λ x. told_in p rows n x.1) (numbered 1 ws) (shares_numbered 1 ws ∙ all) (each (numbered 1 ws))
   where
-    each : (xs : List (ℕ × ℕ)) → All (λ x. Ranged (told_in p rows n x.1)) xs
+    each : (xs : List (ℕ × ℕ)) → AllByRecursion (λ x. Ranged (told_in p rows n x.1)) xs
     each [] = tt
     each (x ∷ xs) = (told_ranged (row_of p (x.1 - 1) rows) n, each xs)

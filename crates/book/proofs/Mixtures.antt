@@ -1,6 +1,6 @@
 -- Sums over the scenarios in order.
 use Rattle.std.proofs.Common.{◌≡◌, ℕ, zero, suc, ◌+◌, ◌*◌, ◌<◌, ◌≤◌, List, [], ◌∷◌, length, get_or, take, drop, sym, refl, ap, ◌∙◌, mul-le-mul_left, arith}
-use Rattle.std.specs.List.{AllByRecursion as All}
+use Rattle.std.specs.List.{AllByRecursion}
 use Rattle.std.proofs.lemmas.List.{take_all}
 use Rattle.reckoning.specs.Outcomes.{summed}
 use Rattle.reckoning.specs.Sums.{summed_append, summed_more, weighed_apart, weighed_zero}
@@ -39,7 +39,7 @@ shared_bound ws f c i h =
       ap (λ n. c * n) (shares_numbered 1 ws),
     )
   where
-    each : (xs : List (ℕ × ℕ)) → All (λ x. f x.1 ≤ 0 + c) xs
+    each : (xs : List (ℕ × ℕ)) → AllByRecursion (λ x. f x.1 ≤ 0 + c) xs
     each [] = tt
     each (x ∷ xs) = (omega (arith, h x.1), each xs)
 

@@ -1,6 +1,6 @@
 -- Sets of levels: what is picked of them, what one contract more reaches, and that outcomes come to just that.
 use Rattle.std.proofs.Common.{◌≡◌, ℕ, zero, suc, ◌+◌, ◌-◌, ◌<◌, ◌≤◌, Bool, true, false, cond, ◌&&◌, ◌||◌, eqb, leb, ◌⊎◌, List, [], ◌∷◌, ◌++◌, length, get_or, sym, refl, ap, ◌∙◌, subst, inl, inr, append_assoc, arith}
-use Rattle.std.specs.List.{ContainsAt as Has, AllByRecursion as All}
+use Rattle.std.specs.List.{ContainsAt, AllByRecursion}
 use Rattle.std.proofs.ByRecursion.{All-append, has_get_or}
 use Rattle.std.proofs.lemmas.List.{append-nil, length_push, get_or_default}
 use Rattle.std.proofs.lemmas.Bool.{cases_lt, cases_order, and_left, or_right, or_cases, and_from, and_parts, le-leb, lt-leb, leb-true, eq-eqb, eqb-true}
@@ -16,13 +16,13 @@ use Rattle.book.proofs.Families.{Sized, outcomes_sized, loss_push}
 use Rattle.book.proofs.Somes.{some_append, some_at}
 
 -- ---- what is picked
-pub picked_to : (S : ℕ → Bool) (n x : ℕ) → Has (picked S n) x → (S x ≡ true) × (x < n)
+pub picked_to : (S : ℕ → Bool) (n x : ℕ) → ContainsAt (picked S n) x → (S x ≡ true) × (x < n)
 picked_to S n x h =
     let s = select S n h.0 h.1 in
     let e : s.0 ≡ x = sym s.1 ∙ h.2 0 in
     (subst (λ (v : ℕ). S v ≡ true) e s.2, subst (λ (v : ℕ). v < n) e s.3)
 
-pub picked_from : (S : ℕ → Bool) (n x : ℕ) → S x ≡ true → x < n → Has (picked S n) x
+pub picked_from : (S : ℕ → Bool) (n x : ℕ) → S x ≡ true → x < n → ContainsAt (picked S n) x
 picked_from S n x t l =
     let i = length (picked S x) in
     let up = λ (v : ℕ) (tv : S v ≡ true). ap length (picked_yes S v tv) ∙ length_push (picked S v) v in
@@ -151,15 +151,15 @@ kept_rise c ws = picked_rises (comes_to ws) (c + 1)
 pub kept_under_ceiling : KeptUnderCeiling
 kept_under_ceiling c ws = picked_under (comes_to ws) c
 
-some_has : {X : Type 0} (t : X → Bool) (xs : List X) → some t xs ≡ true → (x : X) × Has xs x × (t x ≡ true)
+some_has : {X : Type 0} (t : X → Bool) (xs : List X) → some t xs ≡ true → (x : X) × ContainsAt xs x × (t x ≡ true)
 some_has t [] h = absurd (let z : ◌≡◌ {A = ℕ} 0 1 = cc in omega arith)
 some_has {X} t (x ∷ xs) h =
     elim (or_cases (t x) (some t xs) h) [
       | inl here ↦ (x, has_get_or (x ∷ xs) 0 x (omega arith), here)
-      | inr there ↦ let r = some_has t xs there in let m : Has xs r.0 = r.1 in (r.0, (suc m.0, omega (arith, m.1), λ d. m.2 d), r.2)
+      | inr there ↦ let r = some_has t xs there in let m : ContainsAt xs r.0 = r.1 in (r.0, (suc m.0, omega (arith, m.1), λ d. m.2 d), r.2)
     ]
 
-has_some : {X : Type 0} (t : X → Bool) (xs : List X) (x : X) → Has xs x → t x ≡ true → some t xs ≡ true
+has_some : {X : Type 0} (t : X → Bool) (xs : List X) (x : X) → ContainsAt xs x → t x ≡ true → some t xs ≡ true
 has_some t xs x h yes' = some_at t xs h.0 x h.1 (ap t (h.2 x) ∙ yes')
 
 pub kept_are_losses : KeptAreLosses

@@ -1,6 +1,6 @@
 -- Lawful lists: those that a book can be, whatever calls were made on it.
 use Rattle.std.specs.Prelude.{◌≡◌, ℕ, ◌^◌, ◌<◌, ◌≤◌, true, false}
-use Rattle.std.specs.List.{AllByRecursion as All}
+use Rattle.std.specs.List.{AllByRecursion}
 use Rattle.reckoning.specs.Outcomes.{loss_wrong}
 use Rattle.book.specs.declared.book.Book.{Book}
 use Rattle.book.specs.Declines.{ceiling_wrong, shares_wrong, rates_wrong}
@@ -18,7 +18,7 @@ pub record Lawful (p : Plain) : Type 0 where
   pub ceiling : ceiling_wrong p.ceiling ≡ false
   pub shares : shares_wrong p.shares ≡ false
   pub few : size p ≤ 256
-  pub each : All (LawfulEntry (scenarios p)) p.contracts
+  pub each : AllByRecursion (LawfulEntry (scenarios p)) p.contracts
   pub distinct : distinct_keys p.contracts ≡ true
 
 -- every book's list is lawful, whatever the places hold

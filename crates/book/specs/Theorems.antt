@@ -1,6 +1,6 @@
 -- What the kept levels and the values are, in the subject's words.
 use Rattle.std.specs.Prelude.{◌≡◌, ℕ, ◌+◌, ◌<◌, ◌≤◌, List, length, take, slice_index}
-use Rattle.std.specs.List.{ContainsAt as Has}
+use Rattle.std.specs.List.{ContainsAt}
 use Rattle.reckoning.specs.Operations.{Operations}
 use Rattle.reckoning.specs.Outcomes.{Outcome, loss, outcomes}
 use Rattle.book.specs.Levels.{picked, kept}
@@ -19,7 +19,7 @@ AllAtMost c xs = (i : ℕ) → i < length xs → slice_index xs i ≤ c
 -- an outcome over contracts of these losses that comes to x
 pub record OutcomeOf (losses : List ℕ) (x : ℕ) : Type 0 where
   pub outcome : Outcome
-  pub member : Has (outcomes (length losses)) outcome
+  pub member : ContainsAt (outcomes (length losses)) outcome
   pub comes : loss losses outcome ≡ x
 
 abbrev pub KeptRise : Type 0
@@ -32,7 +32,7 @@ KeptUnderCeiling = (ceiling : ℕ) (losses : List ℕ) → AllAtMost ceiling (ke
 abbrev pub KeptAreLosses : Type 0
 KeptAreLosses =
     (ceiling : ℕ) (losses : List ℕ) (x : ℕ) →
-    (Has (kept ceiling losses) x → (x ≤ ceiling) × OutcomeOf losses x) × (x ≤ ceiling → OutcomeOf losses x → Has (kept ceiling losses) x)
+    (ContainsAt (kept ceiling losses) x → (x ≤ ceiling) × OutcomeOf losses x) × (x ≤ ceiling → OutcomeOf losses x → ContainsAt (kept ceiling losses) x)
 
 -- the merge, which widens the levels by one contract after the other, comes to the kept levels
 abbrev pub KeptByMerging : Type 0

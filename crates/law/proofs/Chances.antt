@@ -1,6 +1,6 @@
 -- Chances told enclose the exact ones, narrowly.
 use Rattle.std.proofs.Common.{◌≡◌, ℕ, ◌+◌, ◌-◌, ◌≤◌, eqb, List, [], ◌∷◌, length, get_or, sym, ◌∙◌, subst, arith}
-use Rattle.std.specs.List.{AllByRecursion as All}
+use Rattle.std.specs.List.{AllByRecursion}
 use Rattle.std.proofs.lemmas.List.{length-map}
 use Rattle.std.proofs.lemmas.Bool.{ne_eqb, cond-false}
 use Rattle.reckoning.specs.declared.grains.Grains.{Grains}
@@ -26,7 +26,7 @@ bounds_mean =
     }
 
 -- what holds in every scenario holds of the numbered shares
-each_numbered : (P : ℕ → Type 0) → ((s : ℕ) → P s) → (xs : List (ℕ × ℕ)) → All (λ x. P x.1) xs
+each_numbered : (P : ℕ → Type 0) → ((s : ℕ) → P s) → (xs : List (ℕ × ℕ)) → AllByRecursion (λ x. P x.1) xs
 each_numbered P h [] = tt
 each_numbered P h (x ∷ xs) = (h x.1, each_numbered P h xs)
 

@@ -1,6 +1,6 @@
 -- Every list of a run is well formed, and the places fit it.
 use Rattle.std.proofs.Common.{◌≡◌, ℕ, suc, ◌≤◌, Bool, true, false, cond, not, ◌||◌, eqb, leb, List, [], ◌∷◌, length, Some, None, Option, sym, refl, ap, ◌∙◌, subst, inl, inr, arith}
-use Rattle.std.specs.List.{AllByRecursion as All}
+use Rattle.std.specs.List.{AllByRecursion}
 use Rattle.std.proofs.ByRecursion.{All-push, All-weaker}
 use Rattle.std.proofs.lemmas.List.{length_push}
 use Rattle.std.proofs.lemmas.Bool.{or_parts, or_from, not-false, not_from_true, eqb-true, eq-eqb, leb-false, ltb-false, cond_both}
@@ -19,7 +19,7 @@ pub passed : (t : Bool) (n : ℕ) (rest : Option ℕ) → cond t (Some n) rest �
 passed true n rest e = let z : ◌≡◌ {A = ℕ} 0 1 = cc in absurd (omega arith)
 passed false n rest e = (refl, e)
 
-millionths_from : (rs : List ℕ) → some rate_wrong rs ≡ false → All (λ r. r ≤ 1000000) rs
+millionths_from : (rs : List ℕ) → some rate_wrong rs ≡ false → AllByRecursion (λ r. r ≤ 1000000) rs
 millionths_from [] e = tt
 millionths_from (r ∷ rs) e = let parts = or_parts (rate_wrong r) (some rate_wrong rs) e in (ltb-false 1000000 r parts.0, millionths_from rs parts.1)
 
@@ -34,14 +34,14 @@ whole_from ws e =
 
 -- ---- what striking and re-rating keep
 module _ (P : Entry → Type 0) (k : ℕ) where
-  without_all : (es : List Entry) → All P es → All P (without k es)
+  without_all : (es : List Entry) → AllByRecursion P es → AllByRecursion P (without k es)
   without_all [] h = tt
-  without_all (e ∷ es) h = cond_both (same_key e.key k) es (e ∷ without k es) (All P) (λ _. h.1) (λ _. (h.0, without_all es h.1))
+  without_all (e ∷ es) h = cond_both (same_key e.key k) es (e ∷ without k es) (AllByRecursion P) (λ _. h.1) (λ _. (h.0, without_all es h.1))
 
-  re_rated_all : (rs : List ℕ) → ((e : Entry) → P (entry e.key e.loss rs)) → (es : List Entry) → All P es → All P (re_rated k rs es)
+  re_rated_all : (rs : List ℕ) → ((e : Entry) → P (entry e.key e.loss rs)) → (es : List Entry) → AllByRecursion P es → AllByRecursion P (re_rated k rs es)
   re_rated_all rs new [] h = tt
   re_rated_all rs new (e ∷ es) h =
-      cond_both (same_key e.key k) (entry e.key e.loss rs ∷ es) (e ∷ re_rated k rs es) (All P)
+      cond_both (same_key e.key k) (entry e.key e.loss rs ∷ es) (e ∷ re_rated k rs es) (AllByRecursion P)
       (λ _. (new e, h.1))
       (λ _. (h.0, re_rated_all rs new es h.1))
 

@@ -1,6 +1,6 @@
 -- A layer's premium is what weighs above each of its levels, so its bounds enclose it.
 use Rattle.std.proofs.Common.{◌≡◌, ℕ, zero, suc, ◌+◌, ◌-◌, ◌*◌, ◌^◌, ◌≤◌, cond, leb, List, [], ◌∷◌, ◌++◌, length, get_or, sym, refl, ap, ◌∙◌, subst, inl, inr, append_assoc, append-nil, mul-le-mul_right, pow-suc, add-one, arith}
-use Rattle.std.specs.List.{range_with_len, AllByRecursion as All}
+use Rattle.std.specs.List.{range_with_len, AllByRecursion}
 use Rattle.std.proofs.lemmas.List.FromFn.{length-range_with_len}
 use Rattle.std.proofs.lemmas.List.{length_push, length-map}
 use Rattle.std.proofs.lemmas.Bool.{cases_lt, cond-true, cond-false, le-leb, lt-leb}
@@ -27,12 +27,12 @@ all_weigh_push rs r small h =
     let parts : 1000000 - r + r ≡ 1000000 = omega arith in
     rw (length_push, add-one, pow-suc) (omega (arith, total_either rs os os r, ap (λ (v : ℕ). total rs os * v) parts))
 
-all_weigh_from : (front rs : List ℕ) → All (λ r. r ≤ 1000000) rs → AllWeigh front → AllWeigh (front ++ rs)
+all_weigh_from : (front rs : List ℕ) → AllByRecursion (λ r. r ≤ 1000000) rs → AllWeigh front → AllWeigh (front ++ rs)
 all_weigh_from front [] small h = rw append-nil h
 all_weigh_from front (r ∷ rs) small h =
     subst AllWeigh (append_assoc front (r ∷ []) rs) (all_weigh_from (front ++ (r ∷ [])) rs small.1 (all_weigh_push front r small.0 h))
 
-all_weigh : (rs : List ℕ) → All (λ r. r ≤ 1000000) rs → AllWeigh rs
+all_weigh : (rs : List ℕ) → AllByRecursion (λ r. r ≤ 1000000) rs → AllWeigh rs
 all_weigh rs small = all_weigh_from [] rs small refl
 
 -- ---- what a layer takes of a loss: one for each of its levels that the loss exceeds

@@ -1,7 +1,7 @@
 -- The recursion over the contracts gives, at each level, a value that stands for the outcomes of no greater loss.
 use Rattle.std.proofs.Common.{◌≡◌, ℕ, zero, suc, ◌+◌, ◌-◌, ◌≤◌, Bool, true, false, cond, leb, List, [], ◌∷◌, ◌++◌, map, length, get_or, add-one, arith}
 use mathlib.Core.List.{map-map}
-use Rattle.std.specs.List.{AllByRecursion as All}
+use Rattle.std.specs.List.{AllByRecursion}
 use Rattle.std.proofs.lemmas.List.{length_push, length-map, map_push, append_assoc, append-nil}
 use Rattle.std.proofs.ByRecursion.{All-map, All-weaker}
 use Rattle.std.proofs.lemmas.Bool.{le-leb}
@@ -57,26 +57,26 @@ module _ {V : Type 0} (ops : Operations V) (stands : V → List ℕ → Family �
       rw (map_push rate_of cs c, family_push cs c k)
       (law.blend_stands c.1 (f k) _ (map rate_of cs) _ _ small (rw (length-map cs rate_of) few) (before k) (lagged_stands cs f before k c.0))
 
-  values_stand : (cs ds : List Term) (f : ℕ → V) → All (λ c. c.1 ≤ 1000000) ds → length cs + length ds ≤ 256 → Valued cs f → Valued (cs ++ ds) (values ops ds f)
+  values_stand : (cs ds : List Term) (f : ℕ → V) → AllByRecursion (λ c. c.1 ≤ 1000000) ds → length cs + length ds ≤ 256 → Valued cs f → Valued (cs ++ ds) (values ops ds f)
   values_stand cs [] f small few before = rw (append-nil cs) before
   values_stand cs (d ∷ ds) f small few before =
       rw (← append_assoc cs (d ∷ []) ds)
       (values_stand (cs ++ (d ∷ [])) ds _ small.1 (rw (length_push cs d) (omega arith))
       (entered_stands cs d f small.0 (omega arith) before))
 
-pub rate_at : (rs : List ℕ) (i : ℕ) → All (λ r. r ≤ 1000000) rs → get_or rs i 0 ≤ 1000000
+pub rate_at : (rs : List ℕ) (i : ℕ) → AllByRecursion (λ r. r ≤ 1000000) rs → get_or rs i 0 ≤ 1000000
 rate_at [] i h = omega arith
 rate_at (r ∷ rs) zero h = h.0
 rate_at (r ∷ rs) (suc i) h = rate_at rs i h.1
 
 -- of a list that is well formed, in scenario s
 module _ (p : Plain) (formed : WellFormed p) (s : ℕ) where
-  pub rates_small : All (λ r. r ≤ 1000000) (rates p s)
+  pub rates_small : AllByRecursion (λ r. r ≤ 1000000) (rates p s)
   rates_small =
       All-map (λ r. r ≤ 1000000) (λ e. get_or e.rates (s - 1) 0) p.contracts
       (All-weaker (Rated (scenarios p)) (λ e. get_or e.rates (s - 1) 0 ≤ 1000000) (λ e h. rate_at e.rates (s - 1) h.millionths) p.contracts formed.rated)
 
-  terms_small : All (λ c. c.1 ≤ 1000000) (terms p s)
+  terms_small : AllByRecursion (λ c. c.1 ≤ 1000000) (terms p s)
   terms_small =
       All-map (λ (c : Term). c.1 ≤ 1000000) (λ e. (e.loss, get_or e.rates (s - 1) 0)) p.contracts
       (All-weaker (Rated (scenarios p)) (λ e. get_or e.rates (s - 1) 0 ≤ 1000000) (λ e h. rate_at e.rates (s - 1) h.millionths) p.contracts formed.rated)

@@ -1,6 +1,6 @@
 -- The numbers of a line: each is ended by the byte behind it, so that a line has one reading.
 use Rattle.std.proofs.Common.{◌≡◌, ℕ, ◌+◌, ◌-◌, ◌^◌, ◌<◌, ◌≤◌, List, [], ◌∷◌, ◌++◌, length, get_or, take, drop, set, decimal, sym, refl, ap, ◌∙◌, subst, inl, inr, ⊎_elim, append_assoc, arith, length-append}
-use Rattle.std.specs.List.{AllByRecursion as All}
+use Rattle.std.specs.List.{AllByRecursion}
 use Rattle.std.proofs.ByRecursion.{All-get_or, All-push}
 use Rattle.std.proofs.lemmas.List.{get_or_append_left, get_or_push, append-nil, length_push, take_more_set, take_all, length-take-le, drop_more, drop_all}
 use Rattle.std.proofs.lemmas.Bool.{cases_lt, cases_order}
@@ -115,13 +115,13 @@ line_goes_on bytes at n ns s =
     (subst (λ (text : List ℕ). Stands bytes at (32 ∷ text)) (append_assoc (decimal n) (numbers_text ns) (10 ∷ [])) s)
 
 -- the next number of a line of which the first i are read
-pub next_number : (bytes : List ℕ) (at i : ℕ) (ms : List ℕ) → i < length ms → All (λ n. n < 2 ^ 32) ms →
+pub next_number : (bytes : List ℕ) (at i : ℕ) (ms : List ℕ) → i < length ms → AllByRecursion (λ n. n < 2 ^ 32) ms →
     Stands bytes at (numbers_text (drop i ms) ++ (10 ∷ [])) → EndedNumber bytes at (get_or ms i 0)
 next_number bytes at i ms h a s =
     number_is_ended bytes at (get_or ms i 0) (drop (i + 1) ms) (All-get_or (λ n. n < 2 ^ 32) ms i 0 h a)
     (subst (λ (xs : List ℕ). Stands bytes at (numbers_text xs ++ (10 ∷ []))) (drop_more ms i 0 h) s)
 
-pub rest_of_line : (bytes : List ℕ) (at end n i : ℕ) (ms : List ℕ) → i < length ms → All (λ k. k < 2 ^ 32) ms →
+pub rest_of_line : (bytes : List ℕ) (at end n i : ℕ) (ms : List ℕ) → i < length ms → AllByRecursion (λ k. k < 2 ^ 32) ms →
     ((m : ℕ) → EndedNumber bytes at m → m ≡ n) → end ≡ at + length (32 ∷ decimal n) →
     Stands bytes at (numbers_text (drop i ms) ++ (10 ∷ [])) → Stands bytes end (numbers_text (drop (i + 1) ms) ++ (10 ∷ []))
 rest_of_line bytes at end n i ms h a only e s =
@@ -148,11 +148,11 @@ front_of_line bytes place at end letter n i xs h s e t f =
 pub end_of_line : (bytes : List ℕ) (at i : ℕ) (ms : List ℕ) → length ms ≤ i → Stands bytes at (numbers_text (drop i ms) ++ (10 ∷ [])) → Stands bytes at (10 ∷ [])
 end_of_line bytes at i ms h s = subst (λ (xs : List ℕ). Stands bytes at (numbers_text xs ++ (10 ∷ []))) (drop_all i ms h) s
 
-pub all_one_more : (xs : List ℕ) (i n : ℕ) → i < length xs → All (λ k. k < 2 ^ 32) (take i xs) → n < 2 ^ 32 → All (λ k. k < 2 ^ 32) (take (i + 1) (set xs i n))
+pub all_one_more : (xs : List ℕ) (i n : ℕ) → i < length xs → AllByRecursion (λ k. k < 2 ^ 32) (take i xs) → n < 2 ^ 32 → AllByRecursion (λ k. k < 2 ^ 32) (take (i + 1) (set xs i n))
 all_one_more xs i n h a b = rw (take_more_set xs i n h) (All-push (λ k. k < 2 ^ 32) (take i xs) n a b)
 
 -- the line is read when its end stands behind all of its numbers
-pub line_read : (bytes : List ℕ) (place at letter i : ℕ) (xs : List ℕ) → length xs ≤ i → All (λ k. k < 2 ^ 32) (take i xs) →
+pub line_read : (bytes : List ℕ) (place at letter i : ℕ) (xs : List ℕ) → length xs ≤ i → AllByRecursion (λ k. k < 2 ^ 32) (take i xs) →
     Stands bytes place (letter ∷ numbers_text (take i xs)) → at ≡ place + length (letter ∷ numbers_text (take i xs)) → Stands bytes at (10 ∷ []) →
     LineAt bytes place letter xs × (at + 1 ≡ place + length (line_text letter xs))
 line_read bytes place at letter i xs h a s e t =
@@ -161,14 +161,14 @@ line_read bytes place at letter i xs h a s e t =
     let s' = subst (λ (ys : List ℕ). Stands bytes place (letter ∷ numbers_text ys)) w s in
     let e' = subst (λ (ys : List ℕ). at ≡ place + length (letter ∷ numbers_text ys)) w e in (
       record {
-        small = subst (All (λ k. k < 2 ^ 32)) w a;
+        small = subst (AllByRecursion (λ k. k < 2 ^ 32)) w a;
         stands = stands_joined bytes place front (10 ∷ []) s' (subst (λ (k : ℕ). Stands bytes k (10 ∷ [])) e' t);
       },
       omega (arith, e', length-append front (10 ∷ [])),
     )
 
 -- bytes have one reading as the numbers of a line
-pub same_numbers : (bytes : List ℕ) (at : ℕ) (ns ms : List ℕ) → All (λ k. k < 2 ^ 32) ns → All (λ k. k < 2 ^ 32) ms →
+pub same_numbers : (bytes : List ℕ) (at : ℕ) (ns ms : List ℕ) → AllByRecursion (λ k. k < 2 ^ 32) ns → AllByRecursion (λ k. k < 2 ^ 32) ms →
     Stands bytes at (numbers_text ns ++ (10 ∷ [])) → Stands bytes at (numbers_text ms ++ (10 ∷ [])) → ns ≡ ms
 same_numbers bytes at [] [] a b s t = refl
 same_numbers bytes at [] (m ∷ ms) a b s t = absurd (apart_by_first bytes at 10 32 [] _ (omega arith) s t)

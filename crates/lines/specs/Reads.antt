@@ -1,7 +1,7 @@
 -- What the readers of a number and of a line answer.
 use Rattle.std.specs.Prelude.{◌≡◌, ℕ, ◌+◌, ◌-◌, ◌^◌, ◌<◌, ◌≤◌, cond, ◌⊎◌, List, [], ◌∷◌, ◌++◌, length, take, drop, Ok, Err, decimal, Result, ◌==◌, ◌≢◌, slice_index}
 use Rattle.std.specs.Str.Parse.{digits_value}
-use Rattle.std.specs.List.{AllByRecursion as All}
+use Rattle.std.specs.List.{AllByRecursion}
 use Rattle.lines.specs.declared.fault.NumberFault.{NumberFault}
 use Rattle.lines.specs.declared.fault.NumberFault.TheVariants.{Empty, LeadingZero, NoDigit, TooLarge}
 use Rattle.lines.specs.declared.fault.Malformed.{Malformed}
@@ -75,7 +75,7 @@ FaultInLine bytes place letter count NoEnd = (at : ℕ) × FrontAt bytes place l
 
 -- a line with these numbers, each of 32 bits, stands at a place
 pub record LineAt (bytes : List ℕ) (place letter : ℕ) (ns : List ℕ) : Type 0 where
-  pub small : All (λ n. n < 2 ^ 32) ns
+  pub small : AllByRecursion (λ n. n < 2 ^ 32) ns
   pub stands : Stands bytes place (line_text letter ns)
 
 -- the line of these numbers and the place behind it, or no line with as many numbers

@@ -1,6 +1,6 @@
 -- The list of all outcomes has each once.
 use Rattle.std.proofs.Common.{◌≡◌, ℕ, zero, suc, ◌+◌, Bool, true, false, cond, not, ◌&&◌, ◌⊎◌, List, [], ◌∷◌, ◌++◌, length, sym, refl, ap, ◌∙◌, subst, inl, inr, arith, length-append}
-use Rattle.std.specs.List.{AllByRecursion as All}
+use Rattle.std.specs.List.{AllByRecursion}
 use Rattle.std.proofs.ByRecursion.{All-append}
 use Rattle.std.proofs.lemmas.Bool.{and_left, and_right, cond-false}
 use Rattle.reckoning.specs.Every.{same_claim, same_outcome, times, EachOnce}
@@ -70,11 +70,11 @@ once zero [] long = refl
 once zero (b ∷ o) long = absurd (omega arith)
 once (suc n) o long = once_ended n (once n) (ended o) long
 
-extended_long : (b : Bool) (n : ℕ) (os : Family) → All (λ o. length o ≡ n) os → All (λ o. length o ≡ suc n) (extended b os)
+extended_long : (b : Bool) (n : ℕ) (os : Family) → AllByRecursion (λ o. length o ≡ n) os → AllByRecursion (λ o. length o ≡ suc n) (extended b os)
 extended_long b n [] all = tt
 extended_long b n (o ∷ os) all = let l = all.0 in (omega (arith, length-append o (b ∷ [])), extended_long b n os all.1)
 
-only : (n : ℕ) → All (λ o. length o ≡ n) (outcomes n)
+only : (n : ℕ) → AllByRecursion (λ o. length o ≡ n) (outcomes n)
 only zero = (refl, tt)
 only (suc n) = All-append (λ o. length o ≡ suc n) (extended false (outcomes n)) (extended true (outcomes n)) (extended_long false n (outcomes n) (only n)) (extended_long true n (outcomes n) (only n))
 

@@ -1,6 +1,6 @@
 -- Claims: the greatest number of claims in a family.
 use Rattle.std.specs.Prelude.{◌≡◌, ℕ, suc, ◌<◌, ◌≤◌, min, max, Bool, true, false, cond, List, [], ◌∷◌, Some, None, Option, ◌==◌, nat_lt}
-use Rattle.std.specs.List.{ContainsAt as Has}
+use Rattle.std.specs.List.{ContainsAt}
 use Rattle.reckoning.specs.Outcomes.{Outcome, Family, weight}
 use Rattle.reckoning.specs.Operations.{Operations}
 
@@ -46,7 +46,7 @@ pub record Stands (u : Option ℕ) (rates : List ℕ) (family : Family) : Type 0
 -- an outcome of the family that can come about, with that many claims
 pub record Comes (rates : List ℕ) (family : Family) (k : ℕ) : Type 0 where
   pub outcome : Outcome
-  pub member : Has family outcome
+  pub member : ContainsAt family outcome
   pub weighs : 0 < weight rates outcome
   pub count : claims outcome ≡ k
 

@@ -1,6 +1,6 @@
 -- The list of all outcomes: each outcome stands in it once.
 use Rattle.std.specs.Prelude.{◌≡◌, ℕ, Bool, true, false, cond, not, ◌&&◌, [], ◌∷◌, length}
-use Rattle.std.specs.List.{AllByRecursion as All}
+use Rattle.std.specs.List.{AllByRecursion}
 use Rattle.reckoning.specs.Outcomes.{Outcome, Family, outcomes, summed}
 
 -- whether two outcomes say the same of each contract
@@ -21,4 +21,4 @@ times o os = summed (λ p. cond (same_outcome o p) 1 0) os
 -- every outcome of n contracts is in the list once, and no other is
 pub record EachOnce : Type 0 where
   pub once : (n : ℕ) (o : Outcome) → length o ≡ n → times o (outcomes n) ≡ 1
-  pub only : (n : ℕ) → All (λ o. length o ≡ n) (outcomes n)
+  pub only : (n : ℕ) → AllByRecursion (λ o. length o ≡ n) (outcomes n)

@@ -1,7 +1,7 @@
 -- The law of Claims, and that what it tells is the greatest.
 use Rattle.std.specs.Prelude.{◌≡◌, ℕ, zero, suc, ◌+◌, ◌-◌, ◌*◌, ◌<◌, ◌≤◌, max, Bool, true, false, cond, ltb, ◌⊎◌, List, [], ◌∷◌, ◌++◌, length, Some, None, Option, ◌==◌, nat_lt, slice_index_or, refl}
 use Rattle.std.proofs.Common.{sym, ap, subst, ◌∙◌, inl, inr, ⊎_elim, mul-pos, mul-le-mul_right, mul-le-mul_left, arith}
-use Rattle.std.specs.List.{ContainsAt as Has}
+use Rattle.std.specs.List.{ContainsAt}
 use Rattle.std.proofs.ByRecursion.{has_append_right}
 use Rattle.std.proofs.lemmas.Bool.{cases_lt, lt-ltb, le-ltb, ltb-true, ltb-false, eqb-true, eqb-false, cond-true, cond-false, cond_both}
 use Rattle.reckoning.specs.Outcomes.{Outcome, Family, odds, weight, extended, either}
@@ -160,7 +160,7 @@ comes_later rates o os k c = record { outcome = c.outcome; member = has_append_r
 comes_first : (rates : List ℕ) (o : Outcome) (os : Family) → 0 < weight rates o → Comes rates (o ∷ os) (claims o)
 comes_first rates o os h = record { outcome = o; member = (0, omega arith, λ d. refl); weighs = h; count = refl }
 
-has_cases : {X : Type 0} (y : X) (ys : List X) (x : X) (k : ℕ) → k < length (y ∷ ys) → ((d : X) → slice_index_or (y ∷ ys) k d ≡ x) → Has ys x ⊎ (y ≡ x)
+has_cases : {X : Type 0} (y : X) (ys : List X) (x : X) (k : ℕ) → k < length (y ∷ ys) → ((d : X) → slice_index_or (y ∷ ys) k d ≡ x) → ContainsAt ys x ⊎ (y ≡ x)
 has_cases y ys x zero h at = inr (at y)
 has_cases y ys x (suc k) h at = inl (k, omega arith, at)
 

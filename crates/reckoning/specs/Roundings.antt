@@ -2,7 +2,7 @@
 use Rattle.std.specs.Prelude.{◌≡◌, ℕ, suc, ◌+◌, ◌-◌, ◌*◌, ◌/◌, ◌<◌, ◌≤◌, ◌↔◌, List, [], ◌∷◌, refl}
 use Rattle.std.proofs.Common.{sym, ap, ◌∙◌, mul-le-mul_right, div-mul-le_self, div-lt_iff_lt-mul, le-div_iff_mul-le, arith}
 use Rattle.std.proofs.Math.Nat.{lt-div-mul-add}
-use Rattle.std.specs.List.{AllByRecursion as All}
+use Rattle.std.specs.List.{AllByRecursion}
 use Rattle.std.proofs.ByRecursion.{All-weaker}
 use Rattle.reckoning.specs.declared.grains.Grains.{Grains}
 use Rattle.reckoning.specs.Outcomes.{summed}
@@ -37,7 +37,7 @@ module _ (d : ℕ) (some : 0 < d) where
 
 module _ {I : Type 0} (d : ℕ) (some : 0 < d) (w : I → ℕ) (g : I → Grains) (is : List I) where
   -- pairs that each enclose a figure, over one scale, give a pair that encloses the weighed sum of the figures
-  pub rounded_encloses : (e : I → ℕ) (scale : ℕ) → All (λ i. Encloses (g i).lower (g i).upper (e i) scale) is →
+  pub rounded_encloses : (e : I → ℕ) (scale : ℕ) → AllByRecursion (λ i. Encloses (g i).lower (g i).upper (e i) scale) is →
       Encloses (rounded_out d w g is).lower (rounded_out d w g is).upper (summed (λ i. w i * e i) is) (d * scale)
   rounded_encloses e scale h =
       let low = summed (λ i. w i * (g i).lower) is in
@@ -52,14 +52,14 @@ module _ {I : Type 0} (d : ℕ) (some : 0 < d) (w : I → ℕ) (g : I → Grains
       }
 
   -- at most one count more lies between the ends than between those of the widest pair
-  pub rounded_narrow : (n : ℕ) → summed w is ≡ d → All (λ i. (g i).upper ≤ (g i).lower + n) is → (rounded_out d w g is).upper ≤ (rounded_out d w g is).lower + (n + 1)
+  pub rounded_narrow : (n : ℕ) → summed w is ≡ d → AllByRecursion (λ i. (g i).upper ≤ (g i).lower + n) is → (rounded_out d w g is).upper ≤ (rounded_out d w g is).lower + (n + 1)
   rounded_narrow n whole h =
       up_down d some _ _ n (omega (arith, weighed_apart w (λ i. (g i).lower) (λ i. (g i).upper) n is h, ap (λ k. n * k) whole))
 
-  pub rounded_ranged : summed w is ≡ d → All (λ i. Ranged (g i)) is → Ranged (rounded_out d w g is)
+  pub rounded_ranged : summed w is ≡ d → AllByRecursion (λ i. Ranged (g i)) is → Ranged (rounded_out d w g is)
   rounded_ranged whole h =
-      let ordered : All (λ i. (g i).lower * 1 ≤ (g i).upper * 1) is = All-weaker _ _ (λ i x. omega arith) is h in
-      let certain : All (λ i. (g i).upper ≤ 0 + 1000000000000) is = All-weaker _ _ (λ i x. omega arith) is h in (
+      let ordered : AllByRecursion (λ i. (g i).lower * 1 ≤ (g i).upper * 1) is = All-weaker _ _ (λ i x. omega arith) is h in
+      let certain : AllByRecursion (λ i. (g i).upper ≤ 0 + 1000000000000) is = All-weaker _ _ (λ i x. omega arith) is h in (
         down_up d some _ _ (omega (arith, weighed_le w (λ i. (g i).lower) (λ i. (g i).upper) 1 1 is ordered)),
         up_most d some _ 1000000000000 (omega (arith, weighed_apart w (λ _. 0) (λ i. (g i).upper) 1000000000000 is certain, weighed_zero w is, ap (λ k. 1000000000000 * k) whole)),
       )

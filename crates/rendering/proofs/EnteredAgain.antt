@@ -1,6 +1,6 @@
 -- A lawful list over places that are enough: the opening declines nothing, and each contract is accepted in turn.
 use Rattle.std.proofs.Common.{◌≡◌, ℕ, zero, suc, ◌+◌, ◌*◌, ◌<◌, ◌≤◌, Bool, true, false, not, ◌&&◌, ◌||◌, eqb, ltb, leb, List, [], ◌∷◌, ◌++◌, map, length, get_or, take, Some, None, sym, refl, ap, ◌∙◌, inl, inr, arith}
-use Rattle.std.specs.List.{AllByRecursion as All}
+use Rattle.std.specs.List.{AllByRecursion}
 use Rattle.std.proofs.ByRecursion.{All-get_or}
 use Rattle.std.proofs.lemmas.List.{length-take-le, map_more, take-map}
 use Rattle.std.proofs.lemmas.Bool.{cases_Bool, cond-false, and_parts, and_from, or_from, not-true, not_from_true, le-leb, lt-leb, le-ltb, eq-eqb, ne_eqb, eqb-false, both_ways}
@@ -18,7 +18,7 @@ use Rattle.tariff.specs.Filed.{declines_entry, AllEnter}
 use Rattle.rendering.specs.RoundTrips.{Enough}
 
 -- where no sentence holds nothing is declined
-none_holds : (ss : Sentences) → All (λ s. s.1 ≡ false) ss → first ss ≡ None
+none_holds : (ss : Sentences) → AllByRecursion (λ s. s.1 ≡ false) ss → first ss ≡ None
 none_holds [] all = refl
 none_holds (s ∷ ss) all = cond-false s.1 (Some s.0) (first ss) all.0 ∙ none_holds ss all.1
 

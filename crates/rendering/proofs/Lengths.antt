@@ -1,6 +1,6 @@
 -- What a lawful list admits, and how long the lines of its file are.
 use Rattle.std.proofs.Common.{◌≡◌, ℕ, ◌*◌, ◌≤◌, false, not, ◌&&◌, eqb, leb, List, [], ◌∷◌, length, decimal, arith, length-append}
-use Rattle.std.specs.List.{AllByRecursion as All}
+use Rattle.std.specs.List.{AllByRecursion}
 use Rattle.std.proofs.lemmas.Fmt.{length-decimal-le}
 use Rattle.std.proofs.lemmas.Bool.{and_parts, or_parts, not-false, leb-true, ltb-false, eqb-true}
 use Rattle.reckoning.specs.Outcomes.{summed, outside, rate_wrong}
@@ -18,27 +18,27 @@ in_range low high n e =
     (leb-true low n both.0, leb-true n high both.1)
 
 -- no part exceeds the sum
-parts_at_most : (ws : List ℕ) (most : ℕ) → summed (λ w. w) ws ≤ most → All (λ w. w ≤ most) ws
+parts_at_most : (ws : List ℕ) (most : ℕ) → summed (λ w. w) ws ≤ most → AllByRecursion (λ w. w ≤ most) ws
 parts_at_most [] most h = tt
 parts_at_most (w ∷ ws) most h = (omega arith, parts_at_most ws most (omega arith))
 
-pub shares_admitted : (ws : List ℕ) → shares_wrong ws ≡ false → (length ws ≤ 8) × All (λ w. w ≤ 1000000) ws
+pub shares_admitted : (ws : List ℕ) → shares_wrong ws ≡ false → (length ws ≤ 8) × AllByRecursion (λ w. w ≤ 1000000) ws
 shares_admitted ws e =
     let both = or_parts (outside 1 8 (length ws)) (not (eqb (summed (λ w. w) ws) 1000000)) e in
     let all = eqb-true (summed (λ w. w) ws) 1000000 (not-false (eqb (summed (λ w. w) ws) 1000000) both.1) in
     ((in_range 1 8 (length ws) both.0).1, parts_at_most ws 1000000 (omega arith))
 
-none_above : (rs : List ℕ) → some rate_wrong rs ≡ false → All (λ r. r ≤ 1000000) rs
+none_above : (rs : List ℕ) → some rate_wrong rs ≡ false → AllByRecursion (λ r. r ≤ 1000000) rs
 none_above [] e = tt
 none_above (r ∷ rs) e = let both = or_parts (rate_wrong r) (some rate_wrong rs) e in (ltb-false 1000000 r both.0, none_above rs both.1)
 
-pub rates_admitted : (n : ℕ) (rs : List ℕ) → rates_wrong n rs ≡ false → (length rs ≡ n) × All (λ r. r ≤ 1000000) rs
+pub rates_admitted : (n : ℕ) (rs : List ℕ) → rates_wrong n rs ≡ false → (length rs ≡ n) × AllByRecursion (λ r. r ≤ 1000000) rs
 rates_admitted n rs e =
     let both = or_parts (not (eqb (length rs) n)) (some rate_wrong rs) e in
     (eqb-true (length rs) n (not-false (eqb (length rs) n) both.0), none_above rs both.1)
 
 -- up to a million has at most seven digits
-length_numbers_text : (ns : List ℕ) → All (λ n. n ≤ 1000000) ns → length (numbers_text ns) ≤ 8 * length ns
+length_numbers_text : (ns : List ℕ) → AllByRecursion (λ n. n ≤ 1000000) ns → length (numbers_text ns) ≤ 8 * length ns
 length_numbers_text [] all = omega arith
 length_numbers_text (n ∷ ns) all =
     let here = all.0 in
@@ -48,7 +48,7 @@ length_numbers_text (n ∷ ns) all =
     omega arith
 
 -- an S line has at most 10 bytes
-pub length_shares_text : (ws : List ℕ) → All (λ w. w ≤ 1000000) ws → length (shares_text ws) ≤ 10 * length ws
+pub length_shares_text : (ws : List ℕ) → AllByRecursion (λ w. w ≤ 1000000) ws → length (shares_text ws) ≤ 10 * length ws
 length_shares_text [] all = omega arith
 length_shares_text (w ∷ ws) all =
     let line = length_line_text 83 (w ∷ []) in
@@ -72,7 +72,7 @@ length_contract_line n e few lawful =
     let count = rates.0 in
     omega arith
 
-pub length_contracts_text : (n : ℕ) (es : List Entry) → n ≤ 8 → All (LawfulEntry n) es → length (contracts_text es) ≤ 83 * length es
+pub length_contracts_text : (n : ℕ) (es : List Entry) → n ≤ 8 → AllByRecursion (LawfulEntry n) es → length (contracts_text es) ≤ 83 * length es
 length_contracts_text n [] few all = omega arith
 length_contracts_text n (e ∷ es) few all =
     let here = length_contract_line n e few all.0 in

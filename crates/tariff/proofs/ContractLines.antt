@@ -1,6 +1,6 @@
 -- The C lines of contracts.
 use Rattle.std.proofs.Common.{◌≡◌, ℕ, ◌+◌, ◌<◌, ◌≤◌, List, [], ◌∷◌, ◌++◌, map, length, get_or, drop, Ok, Err, sym, refl, ap, ◌∙◌, subst, append_assoc, arith}
-use Rattle.std.specs.List.{AllByRecursion as All}
+use Rattle.std.specs.List.{AllByRecursion}
 use Rattle.std.proofs.ByRecursion.{All-push, All-append}
 use Rattle.std.proofs.lemmas.List.{length_push, length-take-le, map_push, map-append, take_all, take-append-drop}
 use Rattle.book.specs.Plain.{Entry, entry}
@@ -30,13 +30,13 @@ lines_text_append letter (ms ∷ mss) nss =
     ap (λ (t : List ℕ). line_text letter ms ++ t) (lines_text_append letter mss nss) ∙ sym (append_assoc (line_text letter ms) (lines_text letter mss) (lines_text letter nss))
 
 module _ (n : ℕ) (two : 2 ≤ n) where
-  numbers_of_all : (nss : List (List ℕ)) → All (Numbers n) nss → map numbers_of (map entry_from nss) ≡ nss
+  numbers_of_all : (nss : List (List ℕ)) → AllByRecursion (Numbers n) nss → map numbers_of (map entry_from nss) ≡ nss
   numbers_of_all [] all = refl
   numbers_of_all (ns ∷ nss) all =
       let many = all.0.many in
       ap (λ (xs : List ℕ). xs ∷ map numbers_of (map entry_from nss)) (numbers_of_entry ns (omega arith)) ∙ ap (λ (xss : List (List ℕ)). ns ∷ xss) (numbers_of_all nss all.1)
 
-  entries_numbers : (nss : List (List ℕ)) → All (Numbers n) nss → All (λ e. Numbers n (numbers_of e)) (map entry_from nss)
+  entries_numbers : (nss : List (List ℕ)) → AllByRecursion (Numbers n) nss → AllByRecursion (λ e. Numbers n (numbers_of e)) (map entry_from nss)
   entries_numbers [] all = tt
   entries_numbers (ns ∷ nss) all =
       let many = all.0.many in

@@ -1,6 +1,6 @@
 -- Which numbers and places the refusals of a read can have.
 use Rattle.std.proofs.Common.{◌≡◌, ℕ, ◌-◌, ◌≤◌, Bool, false, cond, not, ◌||◌, eqb, List, [], ◌∷◌, ◌++◌, map, length, drop, IfErr, Some, None, Ok, Err, Result, sym, refl, ap, ◌∙◌, subst, inl, inr, ⊎_elim, arith}
-use Rattle.std.specs.List.{AllByRecursion as All}
+use Rattle.std.specs.List.{AllByRecursion}
 use Rattle.std.proofs.lemmas.List.{length-take, length-drop, length-append, map-append, take_all}
 use Rattle.std.proofs.lemmas.Bool.{cases_Bool, cond-true, cond-false, eq-eqb}
 use Rattle.reckoning.specs.Operations.{Operations}
@@ -25,7 +25,7 @@ use Rattle.tariff.proofs.Filing.{part_length}
 use Rattle.tariff.proofs.Forming.{length_body}
 
 -- what holds of every sentence's number holds of the number told
-first_among : (P : ℕ → Type 0) (ss : Sentences) (n : ℕ) → All (λ s. P s.0) ss → first ss ≡ Some n → P n
+first_among : (P : ℕ → Type 0) (ss : Sentences) (n : ℕ) → AllByRecursion (λ s. P s.0) ss → first ss ≡ Some n → P n
 first_among P [] n all is = let z : ◌≡◌ {A = ℕ} 0 1 = cc in absurd (omega arith)
 first_among P (s ∷ ss) n all is =
     elim (cases_Bool s.1) [
@@ -37,7 +37,7 @@ first_among P (s ∷ ss) n all is =
     ]
 
 -- where no number is told no sentence holds
-first_none : (ss : Sentences) → first ss ≡ None → All (λ s. s.1 ≡ false) ss
+first_none : (ss : Sentences) → first ss ≡ None → AllByRecursion (λ s. s.1 ≡ false) ss
 first_none [] is = tt
 first_none (s ∷ ss) is =
     elim (cases_Bool s.1) [

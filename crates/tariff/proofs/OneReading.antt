@@ -1,7 +1,7 @@
 -- Bytes have one reading as lines.
 use Rattle.std.proofs.Common.{◌≡◌, ℕ, ◌+◌, ◌^◌, ◌<◌, ◌≤◌, List, [], ◌∷◌, map, length, get_or, take, sym, refl, ap, ◌∙◌, subst, ⊎_elim, arith, length-append}
 use lib.ListN.{length-map}
-use Rattle.std.specs.List.{AllByRecursion as All}
+use Rattle.std.specs.List.{AllByRecursion}
 use Rattle.std.proofs.ByRecursion.{All-weaker, All-map}
 use Rattle.std.proofs.lemmas.List.{length-take-le}
 use Rattle.std.proofs.lemmas.Bool.{cases_order}
@@ -18,14 +18,14 @@ use Rattle.lines.proofs.Standing.{stands_within, stands_front, stands_rest}
 
 -- each number has 32 bits
 abbrev Small : List ℕ → Type 0
-Small ns = All (λ k. k < 2 ^ 32) ns
+Small ns = AllByRecursion (λ k. k < 2 ^ 32) ns
 
 module _ (bytes : List ℕ) (letter : ℕ) where
   first_line : (at : ℕ) (ns : List ℕ) (nss : List (List ℕ)) → Small ns → Stands bytes at (lines_text letter (ns ∷ nss)) → LineAt bytes at letter ns
   first_line at ns nss small s = record { small = small; stands = stands_front bytes at (line_text letter ns) (lines_text letter nss) s }
 
   -- behind fewer lines the next of more lines stands
-  line_behind : (P : List ℕ → Type 0) (at : ℕ) (nss mss : List (List ℕ)) → All Small nss → All Small mss → All P mss → Stands bytes at (lines_text letter nss) → Stands bytes at (lines_text letter mss) →
+  line_behind : (P : List ℕ → Type 0) (at : ℕ) (nss mss : List (List ℕ)) → AllByRecursion Small nss → AllByRecursion Small mss → AllByRecursion P mss → Stands bytes at (lines_text letter nss) → Stands bytes at (lines_text letter mss) →
       length nss < length mss → (ms : List ℕ) × P ms × LineAt bytes (at + length (lines_text letter nss)) letter ms
   line_behind P at nss [] a b p s t l = absurd (omega arith)
   line_behind P at [] (ms ∷ mss) a b p s t l =
@@ -40,7 +40,7 @@ module _ (bytes : List ℕ) (letter : ℕ) where
       (next.0, next.1, subst (λ (k : ℕ). LineAt bytes k letter next.0) end next.2)
 
   -- as many lines are the same lines
-  same_lines : (at : ℕ) (nss mss : List (List ℕ)) → All Small nss → All Small mss → Stands bytes at (lines_text letter nss) → Stands bytes at (lines_text letter mss) →
+  same_lines : (at : ℕ) (nss mss : List (List ℕ)) → AllByRecursion Small nss → AllByRecursion Small mss → Stands bytes at (lines_text letter nss) → Stands bytes at (lines_text letter mss) →
       length nss ≡ length mss → nss ≡ mss
   same_lines at [] [] a b s t l = refl
   same_lines at [] (ms ∷ mss) a b s t l = absurd (omega arith)
@@ -78,7 +78,7 @@ module _ (body : List ℕ) (p q : ℕ) (ws vs : List ℕ) (a : SharesTo body p w
   share_behind fewer =
       let front = front_stands body p (shares_text ws) a.inside a.text in
       let other = front_stands body q (shares_text vs) b.inside b.text in
-      let small = λ (us : List ℕ) (all : All (λ w. w < 2 ^ 32) us). All-map Small alone us (All-weaker (λ w. w < 2 ^ 32) (λ w. Small (alone w)) (λ w l. (l, tt)) us all) in
+      let small = λ (us : List ℕ) (all : AllByRecursion (λ w. w < 2 ^ 32) us). All-map Small alone us (All-weaker (λ w. w < 2 ^ 32) (λ w. Small (alone w)) (λ w l. (l, tt)) us all) in
       let next = line_behind body 83 OneShare 0 (map alone ws) (map alone vs) (small ws a.small) (small vs b.small)
       (All-map OneShare alone vs (All-weaker (λ w. w < 2 ^ 32) (λ w. OneShare (alone w)) (λ w l. (w, refl)) vs b.small))
       front.1 other.1 (omega (arith, length-map ws alone, length-map vs alone)) in
@@ -87,7 +87,7 @@ module _ (body : List ℕ) (p q : ℕ) (ws vs : List ℕ) (a : SharesTo body p w
 
   pub same_shares : length ws ≡ length vs → ws ≡ vs
   same_shares same =
-      let small = λ (us : List ℕ) (all : All (λ w. w < 2 ^ 32) us). All-map Small alone us (All-weaker (λ w. w < 2 ^ 32) (λ w. Small (alone w)) (λ w l. (l, tt)) us all) in
+      let small = λ (us : List ℕ) (all : AllByRecursion (λ w. w < 2 ^ 32) us). All-map Small alone us (All-weaker (λ w. w < 2 ^ 32) (λ w. Small (alone w)) (λ w l. (l, tt)) us all) in
       let one = same_lines body 83 0 (map alone ws) (map alone vs) (small ws a.small) (small vs b.small)
       (front_stands body p (shares_text ws) a.inside a.text).1 (front_stands body q (shares_text vs) b.inside b.text).1 (omega (arith, length-map ws alone, length-map vs alone)) in
       let first = λ (ns : List ℕ). get_or ns 0 0 in
@@ -98,7 +98,7 @@ module _ (body : List ℕ) (p q : ℕ) (ws vs : List ℕ) (a : SharesTo body p w
       (front_stands body p (shares_text ws) a.inside a.text).0 ∙ ap (λ (us : List ℕ). length (shares_text us)) (same_shares same) ∙ sym (front_stands body q (shares_text vs) b.inside b.text).0
 
 module _ (part : List ℕ) (n p q : ℕ) (es fs : List Entry) (a : ContractsTo part n p es) (b : ContractsTo part n q fs) where
-  small_of : (xs : List Entry) → All (λ e. Numbers n (numbers_of e)) xs → All Small (map numbers_of xs)
+  small_of : (xs : List Entry) → AllByRecursion (λ e. Numbers n (numbers_of e)) xs → AllByRecursion Small (map numbers_of xs)
   small_of xs all = All-map Small numbers_of xs (All-weaker (λ e. Numbers n (numbers_of e)) (λ e. Small (numbers_of e)) (λ e m. m.small) xs all)
 
   pub contract_behind : length es < length fs → (ns : List ℕ) × (length ns ≡ n) × LineAt part p 67 ns

@@ -1,6 +1,6 @@
 -- A file of the right form is the one file of a list, and the one file of a list has the right form.
 use Rattle.std.proofs.Common.{◌≡◌, ℕ, ◌+◌, ◌-◌, List, ◌++◌, length, take, drop, sym, refl, ap, ◌∙◌, subst, append_assoc, arith, length-append}
-use Rattle.std.specs.List.{AllByRecursion as All}
+use Rattle.std.specs.List.{AllByRecursion}
 use Rattle.std.proofs.lemmas.List.{take_all, take_at, drop_at}
 use Rattle.book.specs.Plain.{Entry, Plain, size, scenarios}
 use Rattle.tariff.specs.Files.{numbers_of, shares_text, contracts_text, file_text}
@@ -95,7 +95,7 @@ right_are_files file t shares entries places form =
         few_contracts = omega arith;
         near = omega arith;
         small = lines.lines.small;
-        each = subst (λ (n : ℕ). All (λ (e : Entry). Numbers (2 + n) (numbers_of e)) entries) (sym count) form.whole.contracts.each;
+        each = subst (λ (n : ℕ). AllByRecursion (λ (e : Entry). Numbers (2 + n) (numbers_of e)) entries) (sym count) form.whole.contracts.each;
         long = omega (arith, ap length same);
       },
       same,

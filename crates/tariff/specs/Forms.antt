@@ -1,6 +1,6 @@
 -- The form of a file: when it is right, and what is wrong with it otherwise.
 use Rattle.std.specs.Prelude.{◌≡◌, ℕ, ◌+◌, ◌-◌, ◌^◌, ◌<◌, ◌≤◌, ◌≢◌, ◌⊎◌, List, [], ◌∷◌, length, take, drop, slice_index, slice_index_or}
-use Rattle.std.specs.List.{AllByRecursion as All}
+use Rattle.std.specs.List.{AllByRecursion}
 use Rattle.book.specs.Plain.{Entry, Plain, size, scenarios, opened, with_entries}
 use Rattle.lines.specs.declared.fault.Malformed.{Malformed}
 use Rattle.tariff.specs.declared.refusal.LineFault.TheVariants.{Share, Contract}
@@ -33,7 +33,7 @@ pub record EndsIn (file : List ℕ) (t : trailers.Trailer) : Type 0 where
 -- up to a place the body is S lines of these shares
 pub record SharesTo (body : List ℕ) (place : ℕ) (shares : List ℕ) : Type 0 where
   pub inside : place ≤ length body
-  pub small : All (λ w. w < 2 ^ 32) shares
+  pub small : AllByRecursion (λ w. w < 2 ^ 32) shares
   pub text : take place body ≡ shares_text shares
 
 -- the S lines are n, and end at a place
@@ -81,7 +81,7 @@ part file t = take (trailer_at file - t.place) (drop t.place file)
 -- up to a place the contract part is C lines of these contracts, with n numbers each
 pub record ContractsTo (part : List ℕ) (n place : ℕ) (entries : List Entry) : Type 0 where
   pub inside : place ≤ length part
-  pub each : All (λ e. Numbers n (numbers_of e)) entries
+  pub each : AllByRecursion (λ e. Numbers n (numbers_of e)) entries
   pub text : take place part ≡ contracts_text entries
 
 -- what stands at a place of the contract part is no C line of n numbers
@@ -157,8 +157,8 @@ pub record FieldsFit (p : Plain) : Type 0 where
   pub few_scenarios : scenarios p < 10
   pub few_contracts : size p < 1000
   pub near : length (shares_text p.shares) < 1000
-  pub small : All (λ w. w < 2 ^ 32) p.shares
-  pub each : All (λ e. Numbers (2 + scenarios p) (numbers_of e)) p.contracts
+  pub small : AllByRecursion (λ w. w < 2 ^ 32) p.shares
+  pub each : AllByRecursion (λ e. Numbers (2 + scenarios p) (numbers_of e)) p.contracts
   pub long : length (file_text p) ≤ 21346
 
 -- the trailer of a list's one file
