@@ -13,6 +13,11 @@ use Rattle.book.specs.Refusals.{number_of, refusal_of}
 use Rattle.law.specs.Runs.{declines, changed, answer, number_of_answer, answered, DeclinedAs, Right, One}
 use Rattle.law.proofs.Runs.{outside_same}
 
+-- what one call does, and that it is declined by the list whatever the places hold
+pub record OneCall {V : Type 0} (ops : Operations V) (h : Handed) (x y : State V) (c : Call) (a : Answer V) : Type 0 where
+  pub does : One ops h x y c a
+  pub declines : DeclinedAs h (listed x.book) c (number_of_answer a)
+
 -- what holds of every accepted result
 pub made_on : {X Y : Type 0} (P Q : X → Type 0) → ((x : X) → P x → Q x) → (r : Result X Y) → IfOk r P → IfOk r Q
 made_on P Q on (Ok x) h = on x h
@@ -31,19 +36,21 @@ module _ {T V : Type 0} (told : T → Answer V) (accepted : (x : T) → number_o
   -- a call that only reads
   module _ (ops : Operations V) (h : Handed) (x : State V) (c : Call) (same : changed (listed x.book) c ≡ listed x.book) where
     read_one : (r : Result T Refusal) → DeclinedAs h (listed x.book) c (refusal_of r) → refusal_of r ≡ declines h (listed x.book) c → (Holds ops x.book x.places → IfOk r (λ t. told t ≡ answer ops (listed x.book) c)) →
-        One ops h x x c (answered told r)
+        OneCall ops h x x c (answered told r)
     read_one r free declined tells = record {
       declines = subst (DeclinedAs h (listed x.book) c) (sym (answered_number r)) free;
-      unchanged = λ n e. refl;
-      list = λ e. sym same;
-      outside = λ e. outside_same (scenarios (listed x.book)) h.levels x.book.kept x.places;
-      right = λ held. record { declined = answered_number r ∙ declined; answered = answered_as r (answer ops (listed x.book) c) (tells held) };
-      again = λ held. held;
+      does = record {
+        unchanged = λ n e. refl;
+        list = λ e. sym same;
+        outside = λ e. outside_same (scenarios (listed x.book)) h.levels x.book.kept x.places;
+        right = λ held. record { declined = answered_number r ∙ declined; answered = answered_as r (answer ops (listed x.book) c) (tells held) };
+        again = λ held. held;
+      };
     }
 
     pub one_reading : (r : Result T Refusal) (a : Answer V) → a ≡ answered told r → DeclinedAs h (listed x.book) c (refusal_of r) → refusal_of r ≡ declines h (listed x.book) c →
-        (Holds ops x.book x.places → IfOk r (λ t. told t ≡ answer ops (listed x.book) c)) → One ops h x x c a
-    one_reading r a is free declined tells = subst (One ops h x x c) (sym is) (read_one r free declined tells)
+        (Holds ops x.book x.places → IfOk r (λ t. told t ≡ answer ops (listed x.book) c)) → OneCall ops h x x c a
+    one_reading r a is free declined tells = subst (OneCall ops h x x c) (sym is) (read_one r free declined tells)
 
 -- a call that changes the book
 module _ {T V : Type 0} (ops : Operations V) (h : Handed) (x y : State V) (c : Call) (does : Done ≡ answer ops (listed x.book) c) where
@@ -61,20 +68,22 @@ module _ {T V : Type 0} (ops : Operations V) (h : Handed) (x y : State V) (c : C
 
   changed_one : (r : Result T Refusal) → DeclinedAs h (listed x.book) c (refusal_of r) → (Holds ops x.book x.places → refusal_of r ≡ declines h (listed x.book) c) → (refusal_of r ≡ None → listed y.book ≡ changed (listed x.book) c) →
       (Holds ops x.book x.places → refusal_of r ≡ None → Holds ops y.book y.places) → (refusal_of r ≡ None → Outside (scenarios (listed x.book)) h.levels y.book.kept x.places y.places) →
-      IfErr r (λ _. y ≡ x) → One ops h x y c (answered (λ _. Done) r)
+      IfErr r (λ _. y ≡ x) → OneCall ops h x y c (answered (λ _. Done) r)
   changed_one r free declined list holds keeps unchanged =
       let done : T → Answer V = λ _. Done in
       let number = answered_number done (λ t. refl) r in
       record {
         declines = subst (DeclinedAs h (listed x.book) c) (sym number) free;
-        unchanged = λ n e. unchanged_by r unchanged n (sym number ∙ e);
-        list = λ e. list (sym number ∙ e);
-        outside = λ e. keeps (sym number ∙ e);
-        right = λ held. record { declined = number ∙ declined held; answered = answered_as done (λ t. refl) r (answer ops (listed x.book) c) (done_as r) };
-        again = λ held. holds_again r unchanged held (holds held);
+        does = record {
+          unchanged = λ n e. unchanged_by r unchanged n (sym number ∙ e);
+          list = λ e. list (sym number ∙ e);
+          outside = λ e. keeps (sym number ∙ e);
+          right = λ held. record { declined = number ∙ declined held; answered = answered_as done (λ t. refl) r (answer ops (listed x.book) c) (done_as r) };
+          again = λ held. holds_again r unchanged held (holds held);
+        };
       }
 
   pub one_changing : (r : Result T Refusal) (a : Answer V) → a ≡ answered (λ _. Done) r → DeclinedAs h (listed x.book) c (refusal_of r) → (Holds ops x.book x.places → refusal_of r ≡ declines h (listed x.book) c) →
       (refusal_of r ≡ None → listed y.book ≡ changed (listed x.book) c) → (Holds ops x.book x.places → refusal_of r ≡ None → Holds ops y.book y.places) →
-      (refusal_of r ≡ None → Outside (scenarios (listed x.book)) h.levels y.book.kept x.places y.places) → IfErr r (λ _. y ≡ x) → One ops h x y c a
-  one_changing r a is free declined list holds keeps unchanged = subst (One ops h x y c) (sym is) (changed_one r free declined list holds keeps unchanged)
+      (refusal_of r ≡ None → Outside (scenarios (listed x.book)) h.levels y.book.kept x.places y.places) → IfErr r (λ _. y ≡ x) → OneCall ops h x y c a
+  one_changing r a is free declined list holds keeps unchanged = subst (OneCall ops h x y c) (sym is) (changed_one r free declined list holds keeps unchanged)

@@ -120,8 +120,6 @@ DeclinedAs h p (LayerOf d t) r = r ≡ declines h p (LayerOf d t)
 
 -- what one call does to a book and its places, x before it and y after it
 pub record One {V : Type 0} (ops : Operations V) (h : Handed) (x y : State V) (c : Call) (a : Answer V) : Type 0 where
-  -- it is declined by the list, whatever the places hold
-  pub declines : DeclinedAs h (listed x.book) c (number_of_answer a)
   -- declined, it leaves everything as it was
   pub unchanged : (n : ℕ) → number_of_answer a ≡ Some n → y ≡ x
   -- accepted, it leaves the list that the call makes, and no other place written than those of the kept levels

@@ -5,7 +5,7 @@ ghost use Rattle.book.specs.Laid.{places_of, state, Holds};
 ghost use Rattle.law.specs.Law.{CarriedOut, Law};
 ghost use Rattle.book.specs.Listed.{listed};
 ghost use Rattle.book.specs.Refusals.{refusal_of};
-ghost use Rattle.law.specs.Runs.{answered, Sound, One};
+ghost use Rattle.law.specs.Runs.{answered, number_of_answer, DeclinedAs, Sound, One};
 
 use crate::call::{Answer, Call};
 use book::book::Book;
@@ -77,7 +77,8 @@ pub fn step<R: Reckoning>(
     bounds: &mut [Grains],
     values: &mut [R::Value],
 ) -> Answer<R::Value>
-    ensures { One R.Reckoning.operations (handed (length levels.old) (length bounds.old) (length values.old)) (state book.old levels.old bounds.old values.old) (state book.new levels.new bounds.new values.new) call.entry result }
+    ensures does { One R.Reckoning.operations (handed (length levels.old) (length bounds.old) (length values.old)) (state book.old levels.old bounds.old values.old) (state book.new levels.new bounds.new values.new) call.entry result }
+    ensures declines { DeclinedAs (handed (length levels.old) (length bounds.old) (length values.old)) (listed book.old) call.entry (number_of_answer result) }
 {
     match call {
         Call::Enter(key, loss, rates) => as_done(book.enter::<R>(

@@ -39,7 +39,7 @@ loop-i-preserved g c = λ sound held.
     let room : c.loop-i.i < length c.loop-i.answers = omega arith in
     subst (λ (answers : List (Answer g.row.R-Value.Denot)). CarriedOut ops stands (handed l b v) (listed c.args.book.now) (take (c.loop-i.i + 1) c.args.calls.now) x z c.args.answers.now answers) (sym c.put.ensures)
     (law_step ops stands means (handed l b v) (listed c.args.book.now) sound c.args.calls.now x y z c.args.answers.now c.loop-i.answers c.loop-i.i _ c.step-answer.result
-    within room (get_or_default _ _ _ _ within) (c.loop-i.invariant sound held) _ same c.step-answer.ensures)
+    within room (get_or_default _ _ _ _ within) (c.loop-i.invariant sound held) _ same c.step-answer.ensures.does)
 
 pub returns : goal.returns
 returns g c =
