@@ -16,7 +16,7 @@ use Rattle.book.proofs.Reaches.{kept_under_ceiling}
 use Rattle.tariff.specs.declared.reading.FileRead.{FileRead}
 use Rattle.tariff.specs.declared.refusal.FileFault.{FileFault}
 use Rattle.tariff.specs.Filed.{ReadsFile}
-use Rattle.rendering.specs.Tables.{levels_text}
+use Rattle.rendering.specs.Tables.{Row, table_text, Table, levels_text}
 use Rattle.rendering.specs.Printed.{level_text, refusal_text}
 use Rattle.lines.proofs.Padded.{at_most_twenty}
 use Rattle.rendering.proofs.Tellings.{length_level_text, length_refusal_text}
@@ -32,6 +32,20 @@ pub told_appended : (before buffer after text : List ℕ) (k : ℕ) → k ≡ le
 told_appended before buffer after text k size told new is =
     let z : k - 0 ≡ k = omega arith in
     is ∙ ap (λ (n : ℕ). before ++ take n buffer) z ∙ ap (λ (b : List ℕ). before ++ take k b) told ∙ ap (λ (t : List ℕ). before ++ t) (take_at text after k (sym size))
+
+table_push : (rows : List Row) (r : Row) → table_text (rows ++ (r ∷ [])) ≡ table_text rows ++ level_text r.level r.lower r.upper
+table_push [] r = append-nil (level_text r.level r.lower r.upper)
+table_push (x ∷ rows) r =
+    let t = level_text x.level x.lower x.upper in
+    ap (λ (s : List ℕ). t ++ s) (table_push rows r) ∙ sym (append_assoc t (table_text rows) (level_text r.level r.lower r.upper))
+
+pub table_more : (before after : List ℕ) (level lower upper : ℕ) → Table before → after ≡ before ++ level_text level lower upper → Table after
+table_more before after level lower upper (rows, is) more =
+    let r : Row = record { level = level; lower = lower; upper = upper } in
+    (rows ++ (r ∷ []), more ∙ ap (λ (t : List ℕ). t ++ level_text level lower upper) is ∙ sym (table_push rows r))
+
+pub table_same : (before after : List ℕ) → Table before → after ≡ before → Table after
+table_same before after (rows, is) same = (rows, same ∙ is)
 
 levels_push : (p : Plain) (ks : List ℕ) (k : ℕ) → levels_text p (ks ++ (k ∷ [])) ≡ levels_text p ks ++ level_text k (chance p 0 k).lower (chance p 0 k).upper
 levels_push p [] k = append-nil (level_text k (chance p 0 k).lower (chance p 0 k).upper)

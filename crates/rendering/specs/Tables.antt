@@ -1,4 +1,4 @@
--- The statement of a file: a line for each kept level of the book that it gives, or one refusal.
+-- The statement of a file: a table of levels, one line for each kept level of the book that it gives, or one refusal.
 use Rattle.std.specs.Prelude.{◌≡◌, ℕ, Bool, true, false, List, [], ◌∷◌, ◌++◌, Ok, Err, Option, Result}
 use Rattle.reckoning.specs.Counting.{counts}
 use Rattle.book.specs.Declines.{handed}
@@ -13,18 +13,34 @@ use Rattle.tariff.specs.Filed.{ReadsFile}
 use Rattle.tariff.specs.Refusals.{telling}
 use Rattle.rendering.specs.Printed.{level_text, refusal_text}
 
+-- a level with its lower and upper chance
+pub record Row : Type 0 where
+  pub level : ℕ
+  pub lower : ℕ
+  pub upper : ℕ
+
+abbrev pub table_text : List Row → List ℕ
+table_text [] = []
+table_text (r ∷ rs) = level_text r.level r.lower r.upper ++ table_text rs
+
+abbrev pub Table : List ℕ → Type 0
+Table text = (rows : List Row) × (text ≡ table_text rows)
+
+abbrev pub Refused : List ℕ → Type 0
+Refused text = (number : ℕ) × (place : ℕ) × (text ≡ refusal_text number place)
+
 -- the lines of levels, each with its lower and upper chance in the mix
 abbrev pub levels_text : Plain → List ℕ → List ℕ
 levels_text p [] = []
 levels_text p (k ∷ ks) = level_text k (chance p 0 k).lower (chance p 0 k).upper ++ levels_text p ks
 
 -- the table of a list: a line for each kept level, in rising order
-abbrev pub table_text : Plain → List ℕ
-table_text p = levels_text p (kept p.ceiling (losses p))
+abbrev pub table_of : Plain → List ℕ
+table_of p = levels_text p (kept p.ceiling (losses p))
 
 -- what a statement says of a read: the table of the list that it leaves, or its refusal
 abbrev pub Says : Plain → Result FileRead FileFault → Bool → List ℕ → Type 0
-Says p (Ok _) accepted text = (accepted ≡ true) × (text ≡ table_text p)
+Says p (Ok _) accepted text = (accepted ≡ true) × (text ≡ table_of p)
 Says p (Err e) accepted text = (accepted ≡ false) × (text ≡ refusal_text (telling e).number (telling e).place)
 
 -- the statement of a file, which is read into a book before open, over 256 level places

@@ -1,11 +1,11 @@
 // The statement of a tariff file: a line for each kept level, or why the file is refused.
-ghost use Rattle.std.specs.Prelude.{◌≡◌, false, ◌++◌, length, IfOk, OnOk};
+ghost use Rattle.std.specs.Prelude.{◌≡◌, false, ◌++◌, length, IfOk, MatchBool, OnOk};
 ghost use Rattle.reckoning.specs.Counting.{counts};
 ghost use Rattle.book.specs.Declines.{handed, places_wrong};
 ghost use Rattle.book.specs.Laid.{places_of, Holds};
 ghost use Rattle.book.specs.Listed.{listed};
 ghost use Rattle.book.specs.Plain.{unopened};
-ghost use Rattle.rendering.specs.Tables.{table_text, Stated};
+ghost use Rattle.rendering.specs.Tables.{Table, Refused, table_of, Stated};
 ghost use Rattle.rendering.specs.Printed.{level_text, refusal_text};
 
 use crate::text::{level_line, refusal_line};
@@ -60,9 +60,8 @@ fn table(
     bounds: &[Grains],
     values: &[Option<u16>],
 ) -> Result<Vec<u8>, AllocError>
-    requires fits { places_wrong (handed (length levels.now) (length bounds.now) (length values.now)) (listed book.now) ≡ false }
-    requires holds { Holds counts book.now (places_of levels.now bounds.now values.now) }
-    ensures { IfOk result (λ text. text.items ≡ table_text (listed book.now)) }
+    ensures rows { IfOk result (λ text. Table text.items) }
+    ensures kept { places_wrong (handed (length levels.now) (length bounds.now) (length values.now)) (listed book.now) ≡ false → Holds counts book.now (places_of levels.now bounds.now values.now) → IfOk result (λ text. text.items ≡ table_of (listed book.now)) }
 {
     let mut text = Vec::new(heap);
     let kept = book.levels_kept().min(levels.len());
@@ -86,7 +85,8 @@ fn state_file(
 ) -> Result<Statement, AllocError>
     requires empty { listed book.old ≡ unopened }
     requires places { (length levels.old ≡ 256) × ((length bounds.old ≡ 2048) × (length values.old ≡ 2048)) }
-    ensures { IfOk result (λ s. Stated file.now s.accepted s.text.items) }
+    ensures told { IfOk result (λ s. MatchBool s.accepted (Table s.text.items) (Refused s.text.items)) }
+    ensures stated { IfOk result (λ s. Stated file.now s.accepted s.text.items) }
 {
     match read::<Claims>(book, file, levels, bounds, values) {
         Ok(_) => {
@@ -109,7 +109,8 @@ fn state_file(
 
 // The statement of a file, over 256 level places; only want of memory stops it.
 pub fn statement_of(heap: Global, file: &[u8]) -> Result<Statement, AllocError>
-    ensures told { IfOk result (λ s. Stated file.now s.accepted s.text.items) }
+    ensures told { IfOk result (λ s. MatchBool s.accepted (Table s.text.items) (Refused s.text.items)) }
+    ensures stated { IfOk result (λ s. Stated file.now s.accepted s.text.items) }
 {
     let mut book = Book::new(heap)?;
     let mut places: Vec<u32> = vec![in heap; 0; LEVELS]?;

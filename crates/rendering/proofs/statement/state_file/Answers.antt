@@ -10,23 +10,6 @@ use Rattle.tariff.proofs.Declined.{whole_fits}
 use Rattle.rendering.proofs.Tables.{read_over}
 use Rattle.rendering.proofs.statement.state_file.Goals as goal
 
-pub table-requires : goal.table-requires
-table-requires c =
-    let l = length c.args.levels.now in
-    let b = length c.args.bounds.now in
-    let v = length c.args.values.now in
-    let x = state c.args.book.now c.args.levels.now c.args.bounds.now c.args.values.now in
-    let y = state c.read.new.book c.read.new.levels c.read.new.bounds c.read.new.values in
-    let same : handed (length c.read.new.levels) (length c.read.new.bounds) (length c.read.new.values) ≡ handed l b v =
-    ap (λ (n : ℕ). handed n (length c.read.new.bounds) (length c.read.new.values)) c.read.auto.levels
-    ∙ ap (λ (n : ℕ). handed l n (length c.read.new.values)) c.read.auto.bounds
-    ∙ ap (λ (n : ℕ). handed l b n) c.read.auto.values in
-    let whole = c.in-Ok.ensures.reads in
-    record {
-      fits = ap (λ (h : Handed). places_wrong h (listed c.read.new.book)) same ∙ whole_fits counts (handed l b v) c.args.file.now x y whole;
-      holds = whole.entered.holds;
-    }
-
 pub returns-in_err-text-in-Ok : goal.returns-in_err-text-in-Ok
 returns-in_err-text-in-Ok c = search (rules, IfOk-from_err)
 
@@ -38,13 +21,25 @@ returns-in_ok-text-in-Ok c =
     let x = state c.args.book.now c.args.levels.now c.args.bounds.now c.args.values.now in
     let y = state c.read.new.book c.read.new.levels c.read.new.bounds c.read.new.values in
     let answer = Ok c.in-Ok.field-0 in
+    let l = length c.args.levels.now in
+    let b = length c.args.bounds.now in
+    let v = length c.args.values.now in
+    let same : handed (length c.read.new.levels) (length c.read.new.bounds) (length c.read.new.values) ≡ handed l b v =
+    ap (λ (n : ℕ). handed n (length c.read.new.bounds) (length c.read.new.values)) c.read.auto.levels
+    ∙ ap (λ (n : ℕ). handed l n (length c.read.new.values)) c.read.auto.bounds
+    ∙ ap (λ (n : ℕ). handed l b n) c.read.auto.values in
+    let whole = c.in-Ok.ensures.reads in
+    let fits = ap (λ (h : Handed). places_wrong h (listed c.read.new.book)) same ∙ whole_fits counts (handed l b v) c.args.file.now x y whole in
     record {
-      before = x;
-      after = y;
-      answer = answer;
-      empty = c.requires.empty;
-      reads = read_over c.args.file.now x y (length c.args.levels.now) (length c.args.bounds.now) (length c.args.values.now) answer c.requires.places.0 c.requires.places.1.0 c.requires.places.1.1 c.in-Ok.ensures.reads;
-      says = (refl, c.in_ok-text-in-Ok.ensures);
+      told = c.in_ok-text-in-Ok.ensures.rows;
+      stated = record {
+        before = x;
+        after = y;
+        answer = answer;
+        empty = c.requires.empty;
+        reads = read_over c.args.file.now x y l b v answer c.requires.places.0 c.requires.places.1.0 c.requires.places.1.1 whole;
+        says = (refl, c.in_ok-text-in-Ok.ensures.kept fits whole.entered.holds);
+      };
     }
 
 pub returns-in_ok-append_refusal-in-Err : goal.returns-in_ok-append_refusal-in-Err
@@ -52,17 +47,20 @@ returns-in_ok-append_refusal-in-Err c =
     let x = state c.args.book.now c.args.levels.now c.args.bounds.now c.args.values.now in
     let y = state c.read.new.book c.read.new.levels c.read.new.bounds c.read.new.values in
     let answer = Err c.in-Err.fault in
+    let line = c.in_ok-append_refusal-in-Err.ensures ∙ ap (λ (t : List ℕ). t ++ refusal_text c.number.result c.place.result) c.new-text.ensures.items in
     record {
-      before = x;
-      after = y;
-      answer = answer;
-      empty = c.requires.empty;
-      reads = read_over c.args.file.now x y (length c.args.levels.now) (length c.args.bounds.now) (length c.args.values.now) answer c.requires.places.0 c.requires.places.1.0 c.requires.places.1.1 c.in-Err.ensures.reads;
-      says = (
-        refl,
-        c.in_ok-append_refusal-in-Err.ensures
-            ∙ ap (λ (t : List ℕ). t ++ refusal_text c.number.result c.place.result) c.new-text.ensures.items
-            ∙ ap (λ (n : ℕ). refusal_text n c.place.result) c.number.ensures
-            ∙ ap (refusal_text (telling c.in-Err.fault).number) c.place.ensures,
-      );
+      told = (c.number.result, c.place.result, line);
+      stated = record {
+        before = x;
+        after = y;
+        answer = answer;
+        empty = c.requires.empty;
+        reads = read_over c.args.file.now x y (length c.args.levels.now) (length c.args.bounds.now) (length c.args.values.now) answer c.requires.places.0 c.requires.places.1.0 c.requires.places.1.1 c.in-Err.ensures.reads;
+        says = (
+          refl,
+          line
+              ∙ ap (λ (n : ℕ). refusal_text n c.place.result) c.number.ensures
+              ∙ ap (refusal_text (telling c.in-Err.fault).number) c.place.ensures,
+        );
+      };
     }

@@ -1,10 +1,18 @@
-use Rattle.std.proofs.Common.{◌≡◌, take, vec_items}
+use Rattle.std.proofs.Common.{◌≡◌, false, length, take, vec_items}
+use Rattle.reckoning.specs.Counting.{counts}
+use Rattle.book.specs.Declines.{handed, places_wrong}
+use Rattle.book.specs.Laid.{places_of, Holds}
 use Rattle.book.specs.Levels.{kept}
 use Rattle.book.specs.Listed.{listed}
 use Rattle.book.specs.Plain.{losses}
-use Rattle.rendering.specs.Tables.{levels_text}
+use Rattle.rendering.specs.Tables.{Table, levels_text}
 use Rattle.rendering.proofs.statement.table.Given as goal
 
--- the lines so far are those of the first kept levels
+-- so far there are lines of levels; over places that hold the book, those of the first kept levels
 abbrev pub invariant-loop-i : goal.invariant-loop-i
-invariant-loop-i l = vec_items l.text ≡ levels_text (listed l.book) (take l.i (kept (listed l.book).ceiling (losses (listed l.book))))
+invariant-loop-i l = record {
+  rows : Table (vec_items l.text);
+  kept :
+      places_wrong (handed (length l.levels) (length l.bounds) (length l.values)) (listed l.book) ≡ false → Holds counts l.book (places_of l.levels l.bounds l.values) →
+      vec_items l.text ≡ levels_text (listed l.book) (take l.i (kept (listed l.book).ceiling (losses (listed l.book))));
+}
