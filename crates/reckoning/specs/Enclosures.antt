@@ -6,7 +6,7 @@ use Rattle.std.proofs.lemmas.List.{length_push}
 use Rattle.std.proofs.lemmas.Bool.{cond-true, cond_both, le-leb, leb-true}
 use Rattle.reckoning.specs.declared.grains.Grains.{Grains}
 use Rattle.reckoning.specs.Outcomes.{Family, odds, total, summed, either}
-use Rattle.reckoning.specs.Rounding.{Encloses, rounded_out}
+use Rattle.reckoning.specs.Rounding.{pair, Encloses, rounded_out}
 use Rattle.reckoning.specs.Enclosing.{Ranged, checked, both, ways, blended, Stands}
 use Rattle.reckoning.specs.Roundings.{rounded_encloses, rounded_narrow, rounded_ranged}
 use Rattle.reckoning.specs.Weights.{total_either}
@@ -19,6 +19,15 @@ checked_ranged g =
 
 pub checked_same : (g : Grains) → Ranged g → checked g ≡ g
 checked_same g h = cond-true _ _ _ (le-leb _ _ h.0) ∙ cond-true _ _ _ (le-leb _ _ h.1)
+
+pub stands_for_none : (rates : List ℕ) → Stands (pair 0 0) rates []
+stands_for_none rates = record { ranged = (omega arith, omega arith); encloses = record { above = omega arith; below = omega arith }; narrow = omega arith }
+
+pub stands_for_whole : Stands (pair 1000000000000 1000000000000) [] ([] ∷ [])
+stands_for_whole = record { ranged = (omega arith, omega arith); encloses = record { above = omega arith; below = omega arith }; narrow = omega arith }
+
+pub ranged_where_stands : (g : Grains) (rates : List ℕ) (family : Family) → Stands g rates family → Ranged g
+ranged_where_stands g rates family s = s.ranged
 
 module _ (r : ℕ) (in_range : r ≤ 1000000) where
   odds_all : summed (odds r) both ≡ 1000000

@@ -8,6 +8,15 @@ use Rattle.reckoning.specs.Outcomes.{Outcome, Family, odds, weight, extended, ei
 use Rattle.reckoning.specs.Counting.{claims, greater, greatest, Ranged, checked, one_more, blended, Stands, Comes, IsGreatest, GreatestIsGreatest}
 use Rattle.reckoning.specs.Weights.{weight_push}
 
+pub stands_for_none : (rates : List ℕ) → Stands None rates []
+stands_for_none rates = record { ranged = tt; is = refl }
+
+pub stands_for_whole : Stands (Some 0) [] ([] ∷ [])
+stands_for_whole = record { ranged = omega arith; is = refl }
+
+pub ranged_where_stands : (u : Option ℕ) (rates : List ℕ) (family : Family) → Stands u rates family → Ranged u
+ranged_where_stands u rates family s = s.ranged
+
 greater_none : (a : Option ℕ) → greater a None ≡ a
 greater_none None = refl
 greater_none (Some k) = refl

@@ -2,8 +2,7 @@
 ghost use Rattle.std.specs.Prelude.{◌≡◌, ◌≤◌};
 ghost use Rattle.reckoning.specs.Rounding.{pair};
 ghost use Rattle.reckoning.specs.Enclosing.{bounds, ways, checked, Ranged, Stands};
-ghost use Rattle.reckoning.specs.Enclosures.{blended_stands, blended_ranged, checked_ranged, checked_same};
-ghost use Rattle.std.proofs.Common.{rules, arith};
+ghost use Rattle.reckoning.specs.Enclosures.{blended_stands, blended_ranged, checked_ranged, checked_same, stands_for_none, stands_for_whole, ranged_where_stands};
 
 use crate::grains::Grains;
 use crate::rate::Rate;
@@ -70,19 +69,19 @@ impl Reckoning for Bounds {
 
     ghost stands = { Stands };
 
-    ghost nothing_stands = { first_of (Prim.search rules, Prim.grind (arith, Self.row.coded.inj)) };
+    ghost nothing_stands = { stands_for_none };
 
-    ghost whole_stands = { first_of (Prim.search rules, Prim.grind (arith, Self.row.coded.inj)) };
+    ghost whole_stands = { stands_for_whole };
 
     ghost blend_stands = { λ r u v rates us vs h few su sv. blended_stands r h u v rates us vs su sv };
 
-    ghost stands_ranged = { first_of (Prim.search rules, Prim.grind (arith, Self.row.coded.inj)) };
+    ghost stands_ranged = { ranged_where_stands };
 
     ghost blend_ranged = { λ r u v h. blended_ranged r h u v };
 
-    ghost reading_ranged = { λ u. checked_ranged u };
+    ghost reading_ranged = { checked_ranged };
 
-    ghost reading_same = { λ u h. checked_same u h };
+    ghost reading_same = { checked_same };
 
     fn nothing() -> Grains {
         Grains { lower: 0, upper: 0 }

@@ -1,8 +1,7 @@
 // The greatest number of claims in a family.
 ghost use Rattle.std.specs.Prelude.{◌≡◌, Some, None};
 ghost use Rattle.reckoning.specs.Counting.{counts, greater, Ranged, checked, one_more, Stands, GreatestIsGreatest};
-ghost use Rattle.reckoning.specs.Greatest.{blended_stands, blended_ranged, checked_ranged, checked_same};
-ghost use Rattle.std.proofs.Common.{rules};
+ghost use Rattle.reckoning.specs.Greatest.{blended_stands, blended_ranged, checked_ranged, checked_same, stands_for_none, stands_for_whole, ranged_where_stands};
 
 use crate::rate::Rate;
 use crate::reckoning::Reckoning;
@@ -52,19 +51,19 @@ impl Reckoning for Claims {
 
     ghost stands = { Stands };
 
-    ghost nothing_stands = { Prim.search rules };
+    ghost nothing_stands = { stands_for_none };
 
-    ghost whole_stands = { Prim.search rules };
+    ghost whole_stands = { stands_for_whole };
 
     ghost blend_stands = { λ r u v rates us vs h few su sv. blended_stands r h rates few u v us vs su sv };
 
-    ghost stands_ranged = { Prim.search rules };
+    ghost stands_ranged = { ranged_where_stands };
 
     ghost blend_ranged = { λ r u v h. blended_ranged r u v };
 
-    ghost reading_ranged = { λ u. checked_ranged u };
+    ghost reading_ranged = { checked_ranged };
 
-    ghost reading_same = { λ u h. checked_same u h };
+    ghost reading_same = { checked_same };
 
     fn nothing() -> Option<u16> {
         None

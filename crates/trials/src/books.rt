@@ -1,6 +1,7 @@
 // The calls on small books, and on places that others wrote to.
 ghost use Rattle.std.specs.Prelude.{◌≤◌, min};
-ghost use Rattle.std.proofs.Common.{rules};
+ghost use Rattle.std.proofs.Common.{lit≤};
+ghost use Rattle.std.proofs.Math.Nat.{min-le_right, min-eq_left};
 
 use book::book::Book;
 use book::refusal::Refusal;
@@ -180,19 +181,19 @@ impl Reckoning for Newest {
 
     ghost stands = { λ u rates family. u ≤ 1000000 };
 
-    ghost nothing_stands = { Prim.search rules };
+    ghost nothing_stands = { λ rates. lit≤ tt };
 
-    ghost whole_stands = { Prim.search rules };
+    ghost whole_stands = { lit≤ tt };
 
-    ghost blend_stands = { Prim.search rules };
+    ghost blend_stands = { λ r u v rates us vs h few su sv. h };
 
-    ghost stands_ranged = { Prim.search rules };
+    ghost stands_ranged = { λ u rates family s. s };
 
-    ghost blend_ranged = { Prim.search rules };
+    ghost blend_ranged = { λ r u v h. h };
 
-    ghost reading_ranged = { Prim.search rules };
+    ghost reading_ranged = { λ u. min-le_right u 1000000 };
 
-    ghost reading_same = { Prim.search rules };
+    ghost reading_same = { λ u h. min-eq_left h };
 
     fn nothing() -> u32 {
         0
