@@ -1,26 +1,18 @@
 -- What the answers tell in short: a number, and a place that lies within the file.
-use Rattle.std.proofs.Common.{◌≡◌, ℕ, ◌+◌, ◌-◌, ◌≤◌, ◌<◌, false, List, [], length, MatchResult, OnErr, Ok, Err, Result, sym, refl, ap, subst, arith}
-use Rattle.reckoning.specs.Operations.{Operations}
-use Rattle.book.specs.declared.opening.Opened.{Opened}
-use Rattle.book.specs.Declines.{Handed, places_wrong}
-use Rattle.book.specs.Laid.{State}
-use Rattle.book.specs.Listed.{listed}
-use Rattle.book.specs.Plain.{Plain}
-use Rattle.book.specs.Refusals.{number_of}
+use Rattle.std.proofs.Common.{ℕ, ◌+◌, ◌<◌, ◌≤◌, List, length, MatchResult, Ok, Err, Result, refl, arith}
+use Rattle.book.specs.Plain.{Entry}
 use Rattle.tariff.specs.declared.refusal.LineFault.{LineFault}
 use Rattle.tariff.specs.declared.refusal.LineFault.TheVariants.{Share, Contract}
-use Rattle.tariff.specs.declared.refusal.BookFault.{BookFault}
 use Rattle.tariff.specs.declared.refusal.FileFault.{FileFault}
 use Rattle.tariff.specs.declared.refusal.FileFault.TheVariants.{Length, Trailer, Line, Shares, Count, Book}
 use Rattle.lines.specs.declared.trailer.Trailer as trailers
-use Rattle.tariff.specs.Forms.{part, SharesRight, SharesWrong, FormWrong}
+use Rattle.tariff.specs.Forms.{part, SharesWrong, FormWrong}
 use Rattle.tariff.specs.Grammar.{LinesFrom}
-use Rattle.tariff.specs.Reading.{ToldAs, ToldOfLine, ToldOfForm, ToldOfOpening, ReadsShare, ReadsContractLine, LineOf, Formed, FormedWith, OpensFor}
+use Rattle.tariff.specs.Reading.{ToldAs, ToldOfLine, ToldOfForm, ReadsShare, ReadsContractLine, LineOf, Formed, FormedWith}
 use Rattle.tariff.specs.Files.{numbers_of}
 use Rattle.tariff.specs.Refusals.{telling}
-use Rattle.book.specs.Plain.{Entry}
 use Rattle.lines.proofs.Lines.{length_line_text}
-use Rattle.tariff.proofs.Declined.{opening_numbers, opened_fits, OfEntering, fault_told}
+use Rattle.tariff.proofs.Declined.{fault_told}
 use Rattle.tariff.proofs.Filing.{lines_from_contracts, place_inside}
 
 module _ (body : List ℕ) where
@@ -64,16 +56,3 @@ form_told file shares (Ok t) (entries, form) =
       contracts = lines_from_contracts (part file t) (2 + t.scenarios) entries form.whole.contracts;
     }
 form_told file shares (Err e) wrong = fault_told file e wrong
-
-module _ {V : Type 0} (ops : Operations V) (h : Handed) (ceiling : ℕ) (shares : List ℕ) (at : ℕ) (x y : State V) where
-  pub opening_told : (g : Handed) (r : Result Opened BookFault) → g ≡ h → OpensFor ops h ceiling shares at x y r → MatchResult r (λ _. places_wrong g (listed y.book) ≡ false) (ToldOfOpening at)
-  opening_told g (Ok _) same opens =
-      subst (λ (k : Handed). places_wrong k (listed y.book) ≡ false) (sym same)
-      (subst (λ (p : Plain). places_wrong h p ≡ false) (sym opens.list) (opened_fits h ceiling shares [] opens.accepted))
-  opening_told g (Err f) same opens =
-      let numbers = opening_numbers h ceiling shares (number_of f.refusal) opens.declined in
-      record { from_5 = numbers.0; to_7 = numbers.1; place = opens.told }
-
-  pub opening_unchanged : (r : Result Opened BookFault) → OpensFor ops h ceiling shares at x y r → OnErr r (y ≡ x)
-  opening_unchanged (Ok _) opens = tt
-  opening_unchanged (Err f) opens = opens.unchanged
