@@ -1,18 +1,21 @@
 -- What the answers tell in short: a number, and a place that lies within the file.
-use Rattle.std.proofs.Common.{ℕ, ◌+◌, ◌<◌, ◌≤◌, List, length, MatchResult, Ok, Err, Result, refl, arith}
+use Rattle.std.proofs.Common.{◌≡◌, ℕ, ◌+◌, ◌<◌, ◌≤◌, List, length, MatchResult, Some, Ok, Err, Result, sym, refl, arith}
+use Rattle.book.specs.Declines.{Handed, open_sentences}
 use Rattle.book.specs.Plain.{Entry}
+use Rattle.book.specs.Refusals.{number_of, first}
 use Rattle.tariff.specs.declared.refusal.LineFault.{LineFault}
 use Rattle.tariff.specs.declared.refusal.LineFault.TheVariants.{Share, Contract}
+use Rattle.tariff.specs.declared.refusal.BookFault.{BookFault}
 use Rattle.tariff.specs.declared.refusal.FileFault.{FileFault}
 use Rattle.tariff.specs.declared.refusal.FileFault.TheVariants.{Length, Trailer, Line, Shares, Count, Book}
 use Rattle.lines.specs.declared.trailer.Trailer as trailers
 use Rattle.tariff.specs.Forms.{part, SharesWrong, FormWrong}
 use Rattle.tariff.specs.Grammar.{LinesFrom}
-use Rattle.tariff.specs.Reading.{ToldAs, ToldOfLine, ToldOfForm, ReadsShare, ReadsContractLine, LineOf, Formed, FormedWith}
+use Rattle.tariff.specs.Reading.{ToldAs, ToldOfLine, ToldOfForm, ToldOfOpening, ReadsShare, ReadsContractLine, LineOf, Formed, FormedWith}
 use Rattle.tariff.specs.Files.{numbers_of}
 use Rattle.tariff.specs.Refusals.{telling}
 use Rattle.lines.proofs.Lines.{length_line_text}
-use Rattle.tariff.proofs.Declined.{fault_told}
+use Rattle.tariff.proofs.Declined.{opening_numbers, fault_told}
 use Rattle.tariff.proofs.Filing.{lines_from_contracts, place_inside}
 
 module _ (body : List ℕ) where
@@ -56,3 +59,8 @@ form_told file shares (Ok t) (entries, form) =
       contracts = lines_from_contracts (part file t) (2 + t.scenarios) entries form.whole.contracts;
     }
 form_told file shares (Err e) wrong = fault_told file e wrong
+
+pub opening_told : (h : Handed) (ceiling : ℕ) (shares : List ℕ) (at : ℕ) (f : BookFault) → Some (number_of f.refusal) ≡ first (open_sentences h ceiling shares) → f.place ≡ at → ToldOfOpening at f
+opening_told h ceiling shares at f declined told =
+    let numbers = opening_numbers h ceiling shares (number_of f.refusal) (sym declined) in
+    record { from_5 = numbers.0; to_7 = numbers.1; place = told }
