@@ -9,15 +9,15 @@ use Rattle.tariff.specs.declared.refusal.BookFault.{BookFault}
 use Rattle.tariff.specs.declared.refusal.FileFault.{FileFault}
 use Rattle.tariff.specs.declared.refusal.FileFault.TheVariants.{Length, Trailer, Line, Shares, Count, Book}
 use Rattle.lines.specs.declared.trailer.Trailer as trailers
+use Rattle.tariff.specs.Files.{numbers_of}
 use Rattle.tariff.specs.Forms.{part, SharesWrong, FormWrong}
 use Rattle.tariff.specs.Grammar.{LinesFrom}
 use Rattle.tariff.specs.Reading.{ToldAs, ToldOfLine, ToldOfForm, ToldOfOpening, ReadsShare, ReadsContractLine, LineOf, Formed, FormedWith}
-use Rattle.tariff.specs.Files.{numbers_of}
-use Rattle.tariff.specs.Refusals.{telling}
 use Rattle.lines.proofs.Lines.{length_line_text}
 use Rattle.tariff.proofs.Declined.{opening_numbers, fault_told}
 use Rattle.tariff.proofs.Filing.{lines_from_contracts, place_inside}
 
+-- what is no S line, or not enough of them, is told by 2
 module _ (body : List ℕ) where
   pub share_told : (place : ℕ) (r : Result (ℕ × ℕ) LineFault) → ReadsShare body place r → MatchResult r (λ p. p.1 ≤ length body) (λ e. ToldAs 2 place (Line e))
   share_told place (Ok p) reads = reads.2
@@ -43,10 +43,11 @@ module _ (part : List ℕ) (base place : ℕ) (ns : List ℕ) where
 pub walks_on : (part : List ℕ) (n place next : ℕ) (e : Entry) → LineOf part n place next e → (place < next) × (next ≤ length part) × LinesFrom part next 67 n
 walks_on part n place next e line = let end = line.end in let long = length_line_text 67 (numbers_of e) in (omega arith, line.inside, line.rest)
 
--- the fault of a line, told within more
+-- the fault of a line lies within more too
 pub told_within : (k most : ℕ) (e : FileFault) → k ≤ most → ToldOfLine k e → ToldOfLine most e
 told_within k most e less told = let place = told.place in record { from_8 = told.from_8; to_13 = told.to_13; not_10 = told.not_10; place = omega arith }
 
+-- the form in short: right with some shares, or told by 1 to 4
 pub form_told : (file shares : List ℕ) (r : Result trailers.Trailer FileFault) → MatchResult r (FormedWith file shares) (FormWrong file) → MatchResult r (Formed file) (ToldOfForm (length file))
 form_told file shares (Ok t) (entries, form) =
     let ends = form.whole.before.ends in
@@ -60,6 +61,7 @@ form_told file shares (Ok t) (entries, form) =
     }
 form_told file shares (Err e) wrong = fault_told file e wrong
 
+-- an opening that is declined
 pub opening_told : (h : Handed) (ceiling : ℕ) (shares : List ℕ) (at : ℕ) (f : BookFault) → Some (number_of f.refusal) ≡ first (open_sentences h ceiling shares) → f.place ≡ at → ToldOfOpening at f
 opening_told h ceiling shares at f declined told =
     let numbers = opening_numbers h ceiling shares (number_of f.refusal) (sym declined) in

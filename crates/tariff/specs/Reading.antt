@@ -36,18 +36,6 @@ pub record ToldOfLine (most : ℕ) (e : FileFault) : Type 0 where
   pub not_10 : (telling e).number ≡ 10 → ⊥
   pub place : (telling e).place ≤ most
 
--- those of a file whose form is wrong
-pub record ToldOfForm (most : ℕ) (e : FileFault) : Type 0 where
-  pub from_1 : 1 ≤ (telling e).number
-  pub to_4 : (telling e).number ≤ 4
-  pub place : (telling e).place ≤ most
-
--- the opening was declined, which is told at the trailer
-pub record ToldOfOpening (at : ℕ) (e : BookFault) : Type 0 where
-  pub from_5 : 5 ≤ number_of e.refusal
-  pub to_7 : number_of e.refusal ≤ 7
-  pub place : e.place ≡ at
-
 -- the S line at a place: its share and the place behind it, or there is no such line
 abbrev pub ReadsShare : List ℕ → ℕ → Result (ℕ × ℕ) LineFault → Type 0
 ReadsShare body place (Ok r) = ReadsLine body place 83 (r.0 ∷ []) (Ok r.1)
@@ -186,3 +174,15 @@ pub record MayCome (most : ℕ) (e : FileFault) : Type 0 where
   pub to_13 : (telling e).number ≤ 13
   pub not_10 : (telling e).number ≡ 10 → ⊥
   pub place : (telling e).place ≤ most
+
+-- those of a file whose form is wrong
+pub record ToldOfForm (most : ℕ) (e : FileFault) : Type 0 where
+  pub from_1 : 1 ≤ (telling e).number
+  pub to_4 : (telling e).number ≤ 4
+  pub place : (telling e).place ≤ most
+
+-- the opening was declined, which is told at the trailer
+pub record ToldOfOpening (at : ℕ) (e : BookFault) : Type 0 where
+  pub from_5 : 5 ≤ number_of e.refusal
+  pub to_7 : number_of e.refusal ≤ 7
+  pub place : e.place ≡ at

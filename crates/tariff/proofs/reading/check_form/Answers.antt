@@ -1,8 +1,7 @@
-use Rattle.std.proofs.Common.{◌≡◌, ◌-◌, length, take, Ok, Err, sym, refl, subst, arith, length-take}
+use Rattle.std.proofs.Common.{◌≡◌, ◌-◌, length, take, Ok, sym, refl, subst, arith, length-take}
 use Rattle.std.proofs.lemmas.Result.{err_from_is_err_and}
 use Rattle.tariff.specs.declared.refusal.FileFault.TheVariants.{Trailer, Line, Count}
 use Rattle.tariff.specs.Forms.{trailer_at, SharesWrong, FormWrong}
-use Rattle.tariff.specs.Reading.{FormedWith}
 use Rattle.tariff.proofs.Declined.{fault_told}
 use Rattle.tariff.proofs.Forming.{body_part, no_trailer, ends_in, shares_fault, begins, contract_fault, count_fault, formed}
 use Rattle.tariff.proofs.Told.{form_told}

@@ -2,7 +2,6 @@ use Rattle.std.proofs.Common.{◌≡◌, ℕ, ◌+◌, ◌-◌, length, take, ap
 use Rattle.std.proofs.lemmas.Result.{err_from_is_err_and}
 use Rattle.book.specs.Declines.{handed}
 use Rattle.book.specs.Laid.{state}
-use Rattle.book.specs.Plain.{Plain}
 use Rattle.tariff.specs.Forms.{part, Form}
 use Rattle.tariff.proofs.Declined.{read_comes, read_unchanged}
 use Rattle.tariff.proofs.Filing.{form_declined, opening_declined, lines_from_contracts, read_entered, part_length}

@@ -1,7 +1,7 @@
 use Rattle.std.proofs.Common.{◌≡◌, ℕ, length, Err, sym, subst, arith}
 use Rattle.std.proofs.lemmas.Result.{err_from_is_err_and}
 use Rattle.tariff.specs.declared.refusal.FileFault.{FileFault}
-use Rattle.tariff.specs.Forms.{SharesRight, SharesWrong}
+use Rattle.tariff.specs.Forms.{SharesRight}
 use Rattle.tariff.specs.Reading.{ReadsDue}
 use Rattle.tariff.proofs.Shares.{shares_to_none, shares_to_stored, shares_all, due_wrong}
 use Rattle.tariff.proofs.Told.{shares_wrong_told}
