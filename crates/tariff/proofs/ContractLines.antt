@@ -9,7 +9,7 @@ use Rattle.tariff.specs.declared.refusal.LineFault.TheVariants.{Share, Contract}
 use Rattle.tariff.specs.Files.{numbers_of, contracts_text}
 use Rattle.tariff.specs.Forms.{ContractsTo}
 use Rattle.tariff.specs.Grammar.{Numbers, lines_text, LinesFrom}
-use Rattle.tariff.specs.Reading.{ReadsContract, ContractsCounted, Counts, LineOf}
+use Rattle.tariff.specs.Reading.{ReadsContractLine, ContractsCounted, Counts, LineOf}
 use Rattle.lines.specs.Reads.{LineAt, FaultInLine, ReadsLine}
 use Rattle.lines.specs.Texts.{line_text}
 use Rattle.lines.proofs.Lines.{same_line}
@@ -80,7 +80,7 @@ module _ (n : ℕ) (two : 2 ≤ n) where
 
     -- what is no C line behind those that are counted is told
     pub counted_wrong : (base place many : ℕ) (ns : List ℕ) (e : LineFault) → ContractsCounted part n place many → place < length part → length ns ≡ n →
-        ReadsContract part base place ns (Err e) → Counts part base n (Err e)
+        ReadsContractLine part base place ns (Err e) → Counts part base n (Err e)
     counted_wrong base place many ns (Share p w) counted some size x = absurd x
     counted_wrong base place many ns (Contract p w) (entries, before, count) some size (told, none, fault) = (
       entries,
@@ -126,7 +126,7 @@ module _ (n : ℕ) (two : 2 ≤ n) where
           rest = subst (λ (k : ℕ). LinesFrom part k 67 n) behind follows.3;
         }
 
-    pub no_fault : (base place : ℕ) (ns : List ℕ) (e : LineFault) → place < length part → LinesFrom part place 67 n → length ns ≡ n → ReadsContract part base place ns (Err e) → ⊥
+    pub no_fault : (base place : ℕ) (ns : List ℕ) (e : LineFault) → place < length part → LinesFrom part place 67 n → length ns ≡ n → ReadsContractLine part base place ns (Err e) → ⊥
     no_fault base place ns (Share p w) some lines size x = x
     no_fault base place ns (Contract p w) some lines size (told, none, fault) =
         let follows = lines_from_next part 67 n place some lines in

@@ -1,10 +1,10 @@
 -- A file read: its form, the opening and the entering put together.
-use Rattle.std.proofs.Common.{◌≡◌, ℕ, ◌+◌, ◌-◌, ◌≤◌, List, ◌∷◌, ◌++◌, map, length, take, drop, Some, Ok, Err, Result, sym, refl, ap, ◌∙◌, subst, inl, inr, append_assoc, arith}
+use Rattle.std.proofs.Common.{◌≡◌, ℕ, ◌+◌, ◌-◌, ◌≤◌, List, [], ◌∷◌, ◌++◌, map, length, take, drop, Some, Ok, Err, Result, sym, refl, ap, ◌∙◌, subst, inl, inr, append_assoc, arith}
 use Rattle.std.proofs.ByRecursion.{All-map}
 use Rattle.std.proofs.lemmas.List.{length-take, length-drop, length-take-le, take_all, take-append-drop, drop-take}
 use Rattle.reckoning.specs.Operations.{Operations}
 use Rattle.book.specs.Declines.{Handed}
-use Rattle.book.specs.Laid.{State}
+use Rattle.book.specs.Laid.{State, Holds}
 use Rattle.book.specs.Levels.{kept}
 use Rattle.book.specs.Listed.{listed}
 use Rattle.book.specs.Plain.{Entry, Plain, losses, scenarios, opened, with_entries}
@@ -119,8 +119,11 @@ module _ {V : Type 0} (ops : Operations V) (h : Handed) (file : List ℕ) where
             outside = outside_more (scenarios list) h.levels 1 z.book.kept x.places y.places z.places (omega arith) book.outside after.outside;
           }
 
-      pub read_entered : (g : Handed) (z : State V) (r : Result FileRead FileFault) → g ≡ h → EntersPart ops g (part file t) t.place (2 + t.scenarios) y z r → ReadsFile ops h file x z r
-      read_entered g z r same enters = by r (subst (λ (k : Handed). EntersPart ops k (part file t) t.place (2 + t.scenarios) y z r) same enters)
+      pub read_entered : (g : Handed) (z : State V) (r : Result FileRead FileFault) → g ≡ h →
+          ((listed y.book).contracts ≡ [] → Holds ops y.book y.places → EntersPart ops g (part file t) t.place (2 + t.scenarios) y z r) → ReadsFile ops h file x z r
+      read_entered g z r same enters =
+          let empty = ap (λ (q : Plain). q.contracts) book.list in
+          by r (subst (λ (k : Handed). EntersPart ops k (part file t) t.place (2 + t.scenarios) y z r) same (enters empty book.holds))
         where
           by : (r : Result FileRead FileFault) → EntersPart ops h (part file t) t.place (2 + t.scenarios) y z r → ReadsFile ops h file x z r
           by (Ok _) p =

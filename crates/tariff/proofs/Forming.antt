@@ -7,7 +7,7 @@ use Rattle.tariff.specs.declared.refusal.FileFault.{FileFault}
 use Rattle.tariff.specs.declared.refusal.FileFault.TheVariants.{Length, Trailer, Line, Shares, Count, Book}
 use Rattle.lines.specs.declared.trailer.Trailer as trailers
 use Rattle.tariff.specs.Forms.{trailer_at, body, part, LengthRight, EndsIn, SharesRight, SharesWrong, Begins, Form, FormWrong}
-use Rattle.tariff.specs.Reading.{ContractsCounted, Counts, Formed}
+use Rattle.tariff.specs.Reading.{ContractsCounted, Counts, FormedWith}
 use Rattle.lines.specs.Trailers.{TrailerOf, ReadsTrailer}
 
 pub length_body : (file : List ℕ) → length (body file) ≡ trailer_at file
@@ -62,7 +62,7 @@ module _ (file : List ℕ) where
           record { trailer = t; shares = shares; entries = entries; whole = record { before = before; contracts = lines }; other = λ same. other (sym count ∙ same); told = refl }
 
       -- the shares stand in front of places that are not used
-      pub formed : (many : ℕ) (rest : List ℕ) → ContractsCounted (part file t) (2 + t.scenarios) (length (part file t)) many → many ≡ t.contracts → Formed file (shares ++ rest) t
+      pub formed : (many : ℕ) (rest : List ℕ) → ContractsCounted (part file t) (2 + t.scenarios) (length (part file t)) many → many ≡ t.contracts → FormedWith file (shares ++ rest) t
       formed many rest (entries, lines, count) same =
           let front = take_at shares rest t.scenarios before.lines.count in (
             entries,

@@ -7,5 +7,6 @@ pub mod OneReading
 pub mod FormsApart
 pub mod Filing
 pub mod Declined
+pub mod Told
 pub mod OneAnswer
 pub mod Rendered

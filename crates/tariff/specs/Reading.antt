@@ -1,5 +1,5 @@
 -- What the parts of the file reader answer.
-use Rattle.std.specs.Prelude.{◌≡◌, ℕ, ◌+◌, ◌≤◌, List, [], ◌∷◌, ◌++◌, length, take, Some, None, Ok, Err, Result}
+use Rattle.std.specs.Prelude.{◌≡◌, ℕ, ◌+◌, ◌-◌, ◌≤◌, List, [], ◌∷◌, ◌++◌, length, take, drop, Some, None, Ok, Err, Result}
 use Rattle.reckoning.specs.Operations.{Operations}
 use Rattle.book.specs.declared.entering.Entered.{Entered}
 use Rattle.book.specs.declared.opening.Opened.{Opened}
@@ -14,6 +14,7 @@ use Rattle.tariff.specs.declared.refusal.BookFault.{BookFault}
 use Rattle.tariff.specs.declared.refusal.FileFault.{FileFault}
 use Rattle.tariff.specs.declared.refusal.FileFault.TheVariants.{Length, Trailer, Line, Shares, Count, Book}
 use Rattle.tariff.specs.declared.reading.FileRead.{FileRead}
+use Rattle.lines.specs.declared.fault.Malformed.{Malformed}
 use Rattle.lines.specs.declared.trailer.Trailer as trailers
 use Rattle.tariff.specs.Filed.{declines_entry, EnteredAll}
 use Rattle.tariff.specs.Files.{numbers_of, contracts_text}
@@ -22,6 +23,18 @@ use Rattle.tariff.specs.Grammar.{Numbers, LinesFrom}
 use Rattle.lines.specs.Reads.{LineAt, FaultInLine, ReadsLine}
 use Rattle.tariff.specs.Refusals.{telling}
 use Rattle.lines.specs.Texts.{line_text}
+
+-- the fault has that number, and its place is at most so far into the file
+pub record ToldAs (n most : ℕ) (e : FileFault) : Type 0 where
+  pub number : (telling e).number ≡ n
+  pub place : (telling e).place ≤ most
+
+-- the fault of a line that the book declines
+pub record ToldOfLine (most : ℕ) (e : FileFault) : Type 0 where
+  pub from_8 : 8 ≤ (telling e).number
+  pub to_13 : (telling e).number ≤ 13
+  pub not_10 : (telling e).number ≡ 10 → ⊥
+  pub place : (telling e).place ≤ most
 
 -- the S line at a place: its share and the place behind it, or there is no such line
 abbrev pub ReadsShare : List ℕ → ℕ → Result (ℕ × ℕ) LineFault → Type 0
@@ -43,8 +56,13 @@ ReadsDue body place (Err (Book f)) = ⊥
 -- the C line at a place of the contract part, which begins at the byte base of the file
 abbrev pub ReadsContract : List ℕ → ℕ → ℕ → List ℕ → Result ℕ LineFault → Type 0
 ReadsContract part base place ns (Ok next) = ReadsLine part place 67 ns (Ok next)
-ReadsContract part base place ns (Err (Share p w)) = ⊥
-ReadsContract part base place ns (Err (Contract p w)) =
+ReadsContract part base place ns (Err e) = ((w : Malformed) × (e ≡ Contract (base + place) w)) × ((ms : List ℕ) → length ms ≡ length ns → LineAt part place 67 ms → ⊥)
+
+-- the same, and what is wrong with a line that is none
+abbrev pub ReadsContractLine : List ℕ → ℕ → ℕ → List ℕ → Result ℕ LineFault → Type 0
+ReadsContractLine part base place ns (Ok next) = ReadsLine part place 67 ns (Ok next)
+ReadsContractLine part base place ns (Err (Share p w)) = ⊥
+ReadsContractLine part base place ns (Err (Contract p w)) =
     (p ≡ base + place) × ((ms : List ℕ) → length ms ≡ length ns → LineAt part place 67 ms → ⊥) × FaultInLine part place 67 (length ns) w
 
 -- up to a place the contract part is so many C lines
@@ -58,9 +76,17 @@ Counts part base n (Err (Share p w)) = ⊥
 Counts part base n (Err (Contract p w)) =
     (entries : List Entry) × ((place : ℕ) × ContractsTo part n place entries × NoContract part n place w × (p ≡ base + place))
 
+-- a file of the right length whose contract part, from the trailer's place to the trailer, is C lines
+pub record Formed (file : List ℕ) (t : trailers.Trailer) : Type 0 where
+  pub least : 18 ≤ length file
+  pub most : length file ≤ 21346
+  pub few : t.scenarios ≤ 9
+  pub inside : t.place ≤ length file - 18
+  pub contracts : LinesFrom (take (length file - 18 - t.place) (drop t.place file)) 0 67 (2 + t.scenarios)
+
 -- the form is right, with the shares that stand in the first places
-abbrev pub Formed : List ℕ → List ℕ → trailers.Trailer → Type 0
-Formed file shares t = (entries : List Entry) × Form file t (take t.scenarios shares) entries
+abbrev pub FormedWith : List ℕ → List ℕ → trailers.Trailer → Type 0
+FormedWith file shares t = (entries : List Entry) × Form file t (take t.scenarios shares) entries
 
 -- a contract is entered
 pub record EnteredOne {V : Type 0} (ops : Operations V) (h : Handed) (e : Entry) (x y : State V) : Type 0 where
@@ -148,3 +174,15 @@ pub record MayCome (most : ℕ) (e : FileFault) : Type 0 where
   pub to_13 : (telling e).number ≤ 13
   pub not_10 : (telling e).number ≡ 10 → ⊥
   pub place : (telling e).place ≤ most
+
+-- those of a file whose form is wrong
+pub record ToldOfForm (most : ℕ) (e : FileFault) : Type 0 where
+  pub from_1 : 1 ≤ (telling e).number
+  pub to_4 : (telling e).number ≤ 4
+  pub place : (telling e).place ≤ most
+
+-- the opening was declined, which is told at the trailer
+pub record ToldOfOpening (at : ℕ) (e : BookFault) : Type 0 where
+  pub from_5 : 5 ≤ number_of e.refusal
+  pub to_7 : number_of e.refusal ≤ 7
+  pub place : e.place ≡ at

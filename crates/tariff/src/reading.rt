@@ -1,14 +1,15 @@
 // Reading a tariff file: the form of the whole file, then open, then line by line.
-ghost use Rattle.std.specs.Prelude.{◌≡◌, ◌+◌, ◌<◌, ◌≤◌, [], length, drop, IfErr, MatchResult, slice_index};
-ghost use Rattle.book.specs.Declines.{handed};
+ghost use Rattle.std.specs.Prelude.{◌≡◌, ◌+◌, ◌<◌, ◌≤◌, false, [], length, drop, IfErr, MatchResult, OnErr, OnOk, slice_index};
+ghost use Rattle.book.specs.Declines.{handed, places_wrong};
 ghost use Rattle.book.specs.Laid.{places_of, state, Holds};
 ghost use Rattle.book.specs.Listed.{listed};
 ghost use Rattle.book.specs.Plain.{entry};
+ghost use Rattle.tariff.specs.declared.refusal.FileFault.TheVariants.{Line};
 ghost use Rattle.tariff.specs.Filed.{ReadsFile};
 ghost use Rattle.tariff.specs.Forms.{SharesRight, SharesWrong, FormWrong};
 ghost use Rattle.tariff.specs.Grammar.{LinesFrom};
 ghost use Rattle.tariff.specs.Refusals.{telling};
-ghost use Rattle.tariff.specs.Reading.{ReadsShare, ReadsDue, ReadsContract, Counts, Formed, EntersOne, EntersLine, EntersPart, OpensFor, MayCome};
+ghost use Rattle.tariff.specs.Reading.{ToldAs, ToldOfLine, ToldOfForm, ToldOfOpening, ReadsShare, ReadsDue, ReadsContract, ReadsContractLine, Counts, Formed, FormedWith, EntersOne, EntersLine, EntersPart, OpensFor, MayCome};
 
 use crate::refusal::{BookFault, FileFault, LineFault};
 use book::book::Book;
@@ -26,7 +27,8 @@ pub struct FileRead;
 
 // The share of the S line at a place, and the place behind it.
 fn share_line(body: &[u8], place: usize) -> Result<(u32, usize), LineFault>
-    ensures { ReadsShare body.now place result }
+    ensures told { MatchResult result (λ p. p.1 ≤ length body.now) (λ e. ToldAs 2 place (Line e)) }
+    ensures reads { ReadsShare body.now place result }
 {
     let mut share = [0u32; 1];
     match read_line(body, place, b'S', &mut share) {
@@ -37,7 +39,8 @@ fn share_line(body: &[u8], place: usize) -> Result<(u32, usize), LineFault>
 
 // The S line that is due at a place; where a C line or the trailer stands in its place, that is told at the trailer.
 fn due_share(body: &[u8], place: usize) -> Result<(u32, usize), FileFault>
-    ensures { ReadsDue body.now place result }
+    ensures told { MatchResult result (λ p. p.1 ≤ length body.now) (ToldAs 2 (length body.now)) }
+    ensures reads { ReadsDue body.now place result }
 {
     if place >= body.len() {
         return Err(FileFault::Shares(body.len()));
@@ -53,7 +56,8 @@ fn due_share(body: &[u8], place: usize) -> Result<(u32, usize), FileFault>
 
 // Reads as many S lines as there are shares; they have to end at the byte `end`.
 fn read_shares(body: &[u8], end: usize, shares: &mut [u32]) -> Result<(), FileFault>
-    ensures { MatchResult result (λ _. SharesRight body.now (length shares.old) end shares.new) (SharesWrong body.now (length shares.old) end) }
+    ensures told { MatchResult result (λ _. end ≤ length body.now) (ToldAs 2 (length body.now)) }
+    ensures reads { MatchResult result (λ _. SharesRight body.now (length shares.old) end shares.new) (SharesWrong body.now (length shares.old) end) }
 {
     let mut place = 0;
     for share in shares.iter_mut() {
@@ -75,7 +79,8 @@ fn contract_line(
     numbers: &mut [u32],
 ) -> Result<usize, LineFault>
     requires { (base + length part.now ≤ 65536) × (place ≤ length part.now) }
-    ensures { ReadsContract part.now base place numbers.new result }
+    ensures told { ReadsContract part.now base place numbers.new result }
+    ensures reads { ReadsContractLine part.now base place numbers.new result }
 {
     match read_line(part, place, b'C', numbers) {
         Ok(next) => Ok(next),
@@ -85,8 +90,9 @@ fn contract_line(
 
 // How many C lines the contract part is, with `count` numbers each; the first line that is none is told.
 fn count_contracts(part: &[u8], base: usize, count: usize) -> Result<usize, LineFault>
-    requires { (base + length part.now ≤ 65536) × ((2 ≤ count) × (count ≤ 11)) }
-    ensures { Counts part.now base count result }
+    requires { (base + length part.now ≤ 65536) × (count ≤ 11) }
+    ensures told { MatchResult result (λ _. LinesFrom part.now 0 67 count) (λ e. ToldAs 3 (base + length part.now) (Line e)) }
+    ensures counts { 2 ≤ count → Counts part.now base count result }
 {
     let mut numbers = [0u32; 11];
     let mut place = 0;
@@ -107,9 +113,9 @@ fn enter_numbers<R: Reckoning>(
     bounds: &mut [Grains],
     values: &mut [R::Value],
 ) -> Result<Entered, BookFault>
-    requires many { 2 ≤ length numbers.now }
-    requires holds { Holds R.Reckoning.operations book.old (places_of levels.old bounds.old values.old) }
-    ensures { EntersOne R.Reckoning.operations (handed (length levels.old) (length bounds.old) (length values.old)) (entry (slice_index numbers.now 0) (slice_index numbers.now 1) (drop 2 numbers.now)) place (state book.old levels.old bounds.old values.old) (state book.new levels.new bounds.new values.new) result }
+    requires { (2 ≤ length numbers.now) × (places_wrong (handed (length levels.old) (length bounds.old) (length values.old)) (listed book.old) ≡ false) }
+    ensures told { MatchResult result (λ _. places_wrong (handed (length levels.new) (length bounds.new) (length values.new)) (listed book.new) ≡ false) (λ e. ToldOfLine place (FileFault.Book e)) }
+    ensures enters { Holds R.Reckoning.operations book.old (places_of levels.old bounds.old values.old) → EntersOne R.Reckoning.operations (handed (length levels.old) (length bounds.old) (length values.old)) (entry (slice_index numbers.now 0) (slice_index numbers.now 1) (drop 2 numbers.now)) place (state book.old levels.old bounds.old values.old) (state book.new levels.new bounds.new values.new) result }
 {
     let key = numbers[0];
     let loss = numbers[1];
@@ -131,8 +137,10 @@ fn enter_line<R: Reckoning>(
     values: &mut [R::Value],
 ) -> Result<usize, FileFault>
     requires part { (base + length part.now ≤ 65536) × ((place < length part.now) × ((2 ≤ count) × ((count ≤ 11) × (LinesFrom part.now place 67 count)))) }
-    requires holds { Holds R.Reckoning.operations book.old (places_of levels.old bounds.old values.old) }
-    ensures { EntersLine R.Reckoning.operations (handed (length levels.old) (length bounds.old) (length values.old)) part.now base count place (state book.old levels.old bounds.old values.old) (state book.new levels.new bounds.new values.new) result }
+    requires places { places_wrong (handed (length levels.old) (length bounds.old) (length values.old)) (listed book.old) ≡ false }
+    ensures walks { MatchResult result (λ next. (place < next) × (next ≤ length part.now) × LinesFrom part.now next 67 count) (ToldOfLine (base + length part.now)) }
+    ensures places { OnOk result (places_wrong (handed (length levels.new) (length bounds.new) (length values.new)) (listed book.new) ≡ false) }
+    ensures enters { Holds R.Reckoning.operations book.old (places_of levels.old bounds.old values.old) → EntersLine R.Reckoning.operations (handed (length levels.old) (length bounds.old) (length values.old)) part.now base count place (state book.old levels.old bounds.old values.old) (state book.new levels.new bounds.new values.new) result }
 {
     let mut numbers = [0u32; 11];
     let line = &mut numbers[0..count];
@@ -152,9 +160,9 @@ fn enter_contracts<R: Reckoning>(
     values: &mut [R::Value],
 ) -> Result<FileRead, FileFault>
     requires part { (base + length part.now ≤ 65536) × ((2 ≤ count) × ((count ≤ 11) × (LinesFrom part.now 0 67 count))) }
-    requires empty { (listed book.old).contracts ≡ [] }
-    requires holds { Holds R.Reckoning.operations book.old (places_of levels.old bounds.old values.old) }
-    ensures { EntersPart R.Reckoning.operations (handed (length levels.old) (length bounds.old) (length values.old)) part.now base count (state book.old levels.old bounds.old values.old) (state book.new levels.new bounds.new values.new) result }
+    requires places { places_wrong (handed (length levels.old) (length bounds.old) (length values.old)) (listed book.old) ≡ false }
+    ensures told { IfErr result (ToldOfLine (base + length part.now)) }
+    ensures enters { (listed book.old).contracts ≡ [] → Holds R.Reckoning.operations book.old (places_of levels.old bounds.old values.old) → EntersPart R.Reckoning.operations (handed (length levels.old) (length bounds.old) (length values.old)) part.now base count (state book.old levels.old bounds.old values.old) (state book.new levels.new bounds.new values.new) result }
 {
     let mut place = 0;
     while place < part.len() {
@@ -166,7 +174,8 @@ fn enter_contracts<R: Reckoning>(
 // The trailer of a file whose form is right, with its shares; else what is wrong with the form.
 fn check_form(file: &[u8], shares: &mut [u32]) -> Result<Trailer, FileFault>
     requires { length shares.old ≡ 9 }
-    ensures { MatchResult result (Formed file.now shares.new) (FormWrong file.now) }
+    ensures told { MatchResult result (Formed file.now) (ToldOfForm (length file.now)) }
+    ensures reads { MatchResult result (FormedWith file.now shares.new) (FormWrong file.now) }
 {
     let len = file.len();
     if len < 18 || len > 21_346 {
@@ -196,7 +205,9 @@ fn open_for<R: Reckoning>(
     bounds: &mut [Grains],
     values: &mut [R::Value],
 ) -> Result<Opened, BookFault>
-    ensures { OpensFor R.Reckoning.operations (handed (length levels.old) (length bounds.old) (length values.old)) ceiling shares.now at (state book.old levels.old bounds.old values.old) (state book.new levels.new bounds.new values.new) result }
+    ensures fault { MatchResult result (λ _. places_wrong (handed (length levels.new) (length bounds.new) (length values.new)) (listed book.new) ≡ false) (ToldOfOpening at) }
+    ensures unchanged { OnErr result (state book.new levels.new bounds.new values.new ≡ state book.old levels.old bounds.old values.old) }
+    ensures opens { OpensFor R.Reckoning.operations (handed (length levels.old) (length bounds.old) (length values.old)) ceiling shares.now at (state book.old levels.old bounds.old values.old) (state book.new levels.new bounds.new values.new) result }
 {
     match book.open::<R>(ceiling, shares, levels, bounds, values) {
         Ok(opened) => Ok(opened),

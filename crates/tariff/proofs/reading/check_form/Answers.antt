@@ -1,11 +1,18 @@
-use Rattle.std.proofs.Common.{◌≡◌, ◌-◌, length, take, sym, refl, subst, arith, length-take}
+use Rattle.std.proofs.Common.{◌≡◌, ◌-◌, length, take, Ok, sym, refl, subst, arith, length-take}
 use Rattle.std.proofs.lemmas.Result.{err_from_is_err_and}
-use Rattle.tariff.specs.Forms.{SharesWrong}
+use Rattle.tariff.specs.declared.refusal.FileFault.TheVariants.{Trailer, Line, Count}
+use Rattle.tariff.specs.Forms.{trailer_at, SharesWrong, FormWrong}
+use Rattle.tariff.proofs.Declined.{fault_told}
 use Rattle.tariff.proofs.Forming.{body_part, no_trailer, ends_in, shares_fault, begins, contract_fault, count_fault, formed}
+use Rattle.tariff.proofs.Told.{form_told}
 use Rattle.tariff.proofs.reading.check_form.Goals as goal
 
 pub returns-in_default : goal.returns-in_default
-returns-in_default c = (record { least = omega arith; most = omega arith }, refl, no_trailer c.args.file.now c.in_default.ensures.reads)
+returns-in_default c =
+    let file = c.args.file.now in
+    let e = Trailer (trailer_at file) in
+    let reads : FormWrong file e = (record { least = omega arith; most = omega arith }, refl, no_trailer file c.in_default.ensures.reads) in
+    record { told = fault_told file e reads; reads = reads }
 
 pub returns-in_err-read_shares : goal.returns-in_err-read_shares
 returns-in_err-read_shares c =
@@ -16,8 +23,9 @@ returns-in_err-read_shares c =
     let n = length (take (t.scenarios - 0) c.args.shares.now) in
     let size : n ≡ t.scenarios = omega (arith, read.scenarios_fit, length-take (t.scenarios - 0) c.args.shares.now) in
     let p = err_from_is_err_and c.from_residual.result c.from_residual.ensures.1 in
-    let wrong = subst (SharesWrong (body_part file) n t.place) (sym p.2) c.in_err-read_shares.ensures in
-    rw p.1 (shares_fault file t ends n p.0 size wrong)
+    let wrong = subst (SharesWrong (body_part file) n t.place) (sym p.2) c.in_err-read_shares.ensures.reads in
+    let reads = shares_fault file t ends n p.0 size wrong in
+    record { told = rw p.1 (fault_told file p.0 reads); reads = rw p.1 reads }
 
 pub returns-in_err-lines : goal.returns-in_err-lines
 returns-in_err-lines c =
@@ -28,9 +36,11 @@ returns-in_err-lines c =
     let n = length (take (t.scenarios - 0) c.args.shares.now) in
     let size : n ≡ t.scenarios = omega (arith, read.scenarios_fit, length-take (t.scenarios - 0) c.args.shares.now) in
     let shares = c.read_shares.new.shares in
-    let before = begins file t ends n shares size c.in_ok-read_shares.ensures in
+    let before = begins file t ends n shares size c.in_ok-read_shares.ensures.reads in
     let p = err_from_is_err_and c.from_residual-in_err-lines.result c.from_residual-in_err-lines.ensures.1 in
-    rw (p.1, p.2) (contract_fault file t shares before c.in_err-lines.field-0.0 c.in_err-lines.ensures)
+    let fault = c.in_err-lines.field-0.0 in
+    let reads = contract_fault file t shares before fault (c.in_err-lines.ensures.counts (omega arith)) in
+    record { told = rw (p.1, p.2) (fault_told file (Line fault) reads); reads = rw (p.1, p.2) reads }
 
 pub returns-then-lines-trailer : goal.returns-then-lines-trailer
 returns-then-lines-trailer c =
@@ -41,8 +51,9 @@ returns-then-lines-trailer c =
     let n = length (take (t.scenarios - 0) c.args.shares.now) in
     let size : n ≡ t.scenarios = omega (arith, read.scenarios_fit, length-take (t.scenarios - 0) c.args.shares.now) in
     let shares = c.read_shares.new.shares in
-    let before = begins file t ends n shares size c.in_ok-read_shares.ensures in
-    count_fault file t shares before c.in_ok-lines.lines c.in_ok-lines.ensures (λ same. omega arith)
+    let before = begins file t ends n shares size c.in_ok-read_shares.ensures.reads in
+    let reads = count_fault file t shares before c.in_ok-lines.lines (c.in_ok-lines.ensures.counts (omega arith)) (λ same. omega arith) in
+    record { told = fault_told file (Count (trailer_at file)) reads; reads = reads }
 
 pub returns : goal.returns
 returns c =
@@ -53,5 +64,6 @@ returns c =
     let n = length (take (t.scenarios - 0) c.args.shares.now) in
     let size : n ≡ t.scenarios = omega (arith, read.scenarios_fit, length-take (t.scenarios - 0) c.args.shares.now) in
     let shares = c.read_shares.new.shares in
-    let before = begins file t ends n shares size c.in_ok-read_shares.ensures in
-    formed file t shares before c.in_ok-lines.lines _ c.in_ok-lines.ensures (omega arith)
+    let before = begins file t ends n shares size c.in_ok-read_shares.ensures.reads in
+    let reads = formed file t shares before c.in_ok-lines.lines _ (c.in_ok-lines.ensures.counts (omega arith)) (omega arith) in
+    record { told = form_told file _ (Ok t) reads; reads = reads }

@@ -2,16 +2,15 @@ use Rattle.std.proofs.Common.{◌≡◌, ℕ, length, ap, ◌∙◌, arith}
 use Rattle.std.proofs.lemmas.Result.{err_from_is_err_and}
 use Rattle.book.specs.Declines.{handed}
 use Rattle.book.specs.Laid.{state}
-use Rattle.tariff.specs.Files.{numbers_of}
 use Rattle.tariff.proofs.Enterings.{so_far_none, so_far_more, part_entered, part_declined}
-use Rattle.lines.proofs.Lines.{length_line_text}
 use Rattle.tariff.proofs.reading.enter_contracts.Goals as goal
 
 pub loop-place-init : goal.loop-place-init
 loop-place-init g c =
     let h = handed (length c.args.levels.now) (length c.args.bounds.now) (length c.args.values.now) in
     let x = state c.args.book.now c.args.levels.now c.args.bounds.now c.args.values.now in
-    so_far_none g.R.Reckoning.operations h c.args.part.now c.args.count (omega arith) x c.requires.part.1.1.1 c.requires.empty c.requires.holds
+    let lines = c.requires.part.1.1.1 in
+    (omega arith, lines, c.requires.places, λ empty holds. so_far_none g.R.Reckoning.operations h c.args.part.now c.args.count (omega arith) x lines empty holds)
 
 pub returns-in_err-place : goal.returns-in_err-place
 returns-in_err-place g c =
@@ -26,7 +25,13 @@ returns-in_err-place g c =
     ∙ ap (λ (n : ℕ). handed l n (length c.loop-place.values)) c.loop-place.auto.bounds
     ∙ ap (λ (n : ℕ). handed l b n) c.loop-place.auto.values in
     let p = err_from_is_err_and c.from_residual.result c.from_residual.ensures.1 in
-    rw (p.1, p.2) (part_declined g.R.Reckoning.operations (handed l b v) c.args.part.now c.args.count (omega arith) x c.args.base c.loop-place.place y z _ c.in_err-place.field-0.0 same c.loop-place.invariant c.in_err-place.ensures)
+    let declined = c.in_err-place.ensures in
+    record {
+      told = rw (p.1, p.2) declined.walks;
+      enters = λ empty holds.
+          let so = c.loop-place.invariant.3 empty holds in
+          rw (p.1, p.2) (part_declined g.R.Reckoning.operations (handed l b v) c.args.part.now c.args.count (omega arith) x c.args.base c.loop-place.place y z _ c.in_err-place.field-0.0 same so (declined.enters so.entered.holds));
+    }
 
 pub loop-place-preserved : goal.loop-place-preserved
 loop-place-preserved g c =
@@ -40,19 +45,24 @@ loop-place-preserved g c =
     ap (λ (n : ℕ). handed n (length c.loop-place.bounds) (length c.loop-place.values)) c.loop-place.auto.levels
     ∙ ap (λ (n : ℕ). handed l n (length c.loop-place.values)) c.loop-place.auto.bounds
     ∙ ap (λ (n : ℕ). handed l b n) c.loop-place.auto.values in
-    so_far_more g.R.Reckoning.operations (handed l b v) c.args.part.now c.args.count (omega arith) x c.args.base c.loop-place.place c.in_ok-place.place y z _ same c.loop-place.invariant c.in_ok-place.ensures
+    let entered = c.in_ok-place.ensures in (
+      entered.walks.1,
+      entered.walks.2,
+      entered.places,
+      λ empty holds.
+          let so = c.loop-place.invariant.3 empty holds in
+          so_far_more g.R.Reckoning.operations (handed l b v) c.args.part.now c.args.count (omega arith) x c.args.base c.loop-place.place c.in_ok-place.place y z _ same so (entered.enters so.entered.holds),
+    )
 
 pub loop-place-smaller : goal.loop-place-smaller
-loop-place-smaller g c =
-    let line = c.in_ok-place.ensures.1 in
-    let end = line.end in
-    let inside = line.inside in
-    let long = length_line_text 67 (numbers_of c.in_ok-place.ensures.0) in
-    omega arith
+loop-place-smaller g c = let walks = c.in_ok-place.ensures.walks in omega (arith, walks.0, walks.1)
 
 pub returns : goal.returns
 returns g c =
     let h = handed (length c.args.levels.now) (length c.args.bounds.now) (length c.args.values.now) in
     let x = state c.args.book.now c.args.levels.now c.args.bounds.now c.args.values.now in
     let y = state c.loop-place.book c.loop-place.levels c.loop-place.bounds c.loop-place.values in
-    part_entered g.R.Reckoning.operations h c.args.part.now c.args.count (omega arith) x c.loop-place.place y (omega arith) c.loop-place.invariant
+    record {
+      told = tt;
+      enters = λ empty holds. part_entered g.R.Reckoning.operations h c.args.part.now c.args.count (omega arith) x c.loop-place.place y (omega arith) (c.loop-place.invariant.3 empty holds);
+    }
