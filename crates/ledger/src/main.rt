@@ -19,10 +19,7 @@ fn main(rt: HostRuntime) -> anyhow::Result<()> {
     match carry_out(&rt) {
         Ok(true) => Ok(()),
         Ok(false) => Err(anyhow!("the script is no script")),
-        Err(wrong) => {
-            let _ = eprintln!(rt; "ledger: {wrong}");
-            Err(wrong)
-        }
+        Err(wrong) => Err(wrong),
     }
 }
 

@@ -10,10 +10,7 @@ fn main(rt: HostRuntime) -> anyhow::Result<()> {
     match carry_out(&rt) {
         Ok(true) => Ok(()),
         Ok(false) => Err(anyhow!("a line is no call")),
-        Err(wrong) => {
-            let _ = eprintln!(rt; "probe: {wrong}");
-            Err(wrong)
-        }
+        Err(wrong) => Err(wrong),
     }
 }
 

@@ -6,11 +6,7 @@ use rendering::statement::statement_of;
 use std::io::Read;
 
 fn main(rt: HostRuntime) -> anyhow::Result<()> {
-    let done = run(&rt);
-    if let Err(wrong) = &done {
-        let _ = eprintln!(rt; "statement: {wrong}");
-    }
-    done
+    run(&rt)
 }
 
 // Prints the table of levels, or the refusal, which is an error besides.
