@@ -32,8 +32,8 @@ module _ {V : Type 0} (ops : Operations V) (s ceiling p : ℕ) where
 -- ---- the contracts from place i on
 module _ {V : Type 0} (ops : Operations V) (s ceiling p : ℕ) (items : List Contract) where
   -- what is laid from here on, with len levels in x, is what was to be laid from the start
-  abbrev pub Goes_on : Places V → ℕ → ℕ → Places V → Type 0
-  Goes_on begun i len x =
+  abbrev pub GoesOn : Places V → ℕ → ℕ → Places V → Type 0
+  GoesOn begun i len x =
       (n : ℕ) (new : Places V) → LaidInTurn ops s ceiling p (map (entry_of s) (drop i items)) len n x new → LaidInTurn ops s ceiling p (map (entry_of s) items) 1 n begun new
 
   module _ (i : ℕ) (item : Contract) (within : i < length items) (is : item ≡ get_or items i item) where
@@ -43,15 +43,15 @@ module _ {V : Type 0} (ops : Operations V) (s ceiling p : ℕ) (items : List Con
         drop-cons items i item within ∙ ap (λ (c : Contract). c ∷ drop (suc i) items) (sym is) ∙ ap (λ (j : ℕ). item ∷ drop j items) one
 
     pub goes_on_more : (begun x mid : Places V) (len m : ℕ) → ltb p (count_over x.levels len ceiling item.loss.units) ≡ false → m ≡ count_over x.levels len ceiling item.loss.units →
-        LaidOver ops len ceiling p item.loss.units (entry_of s item).rates x mid → Outside s p m x mid → Goes_on begun i len x → Goes_on begun (i + 1) m mid
+        LaidOver ops len ceiling p item.loss.units (entry_of s item).rates x mid → Outside s p m x mid → GoesOn begun i len x → GoesOn begun (i + 1) m mid
     goes_on_more begun x mid len m few count laid out was n new rest =
         was n new (subst (λ (cs : List Contract). LaidInTurn ops s ceiling p (map (entry_of s) cs) len n x new) (sym next) (turn_goes ops s ceiling p (entry_of s item) (map (entry_of s) (drop (i + 1) items)) len m n x mid new few count laid out rest))
 
-    pub goes_on_stops : (begun x : Places V) (len : ℕ) → ltb p (count_over x.levels len ceiling item.loss.units) ≡ true → Goes_on begun i len x → LaidInTurn ops s ceiling p (map (entry_of s) items) 1 len begun x
+    pub goes_on_stops : (begun x : Places V) (len : ℕ) → ltb p (count_over x.levels len ceiling item.loss.units) ≡ true → GoesOn begun i len x → LaidInTurn ops s ceiling p (map (entry_of s) items) 1 len begun x
     goes_on_stops begun x len many was =
         was len x (subst (λ (cs : List Contract). LaidInTurn ops s ceiling p (map (entry_of s) cs) len len x x) (sym next) (turn_stops ops s ceiling p (entry_of s item) (map (entry_of s) (drop (i + 1) items)) len x many))
 
-  pub goes_on_all : (begun x : Places V) (i len : ℕ) → length items ≤ i → Goes_on begun i len x → LaidInTurn ops s ceiling p (map (entry_of s) items) 1 len begun x
+  pub goes_on_all : (begun x : Places V) (i len : ℕ) → length items ≤ i → GoesOn begun i len x → LaidInTurn ops s ceiling p (map (entry_of s) items) 1 len begun x
   goes_on_all begun x i len end was =
       was len x (subst (λ (cs : List Contract). LaidInTurn ops s ceiling p (map (entry_of s) cs) len len x x) (sym (drop_all i items end)) (refl, refl))
 

@@ -20,6 +20,10 @@ fn carry_out(rt: &HostRuntime) -> anyhow::Result<bool> {
     let Some(script) = read_script_text(rt)? else {
         return Ok(false);
     };
+    if script.is_empty() {
+        say_fault(rt, 1, "there is no script")?;
+        return Ok(false);
+    }
     let told = run_script(heap, script.as_str())?;
     rt.stdout().write_all(&told.text[..])?;
     match told.fault {

@@ -7,14 +7,10 @@ pub fn say_fault(rt: &HostRuntime, line: usize, what: &str) -> anyhow::Result<()
     Ok(())
 }
 
-// The text of standard input; none where there is nothing or no text, which is then said.
+// The text of standard input; none where it is no text, which is then said.
 pub fn read_script_text(rt: &HostRuntime) -> anyhow::Result<Option<String>> {
     let mut bytes: Vec<u8> = Vec::new(rt.alloc());
     rt.stdin().read_to_end(&mut bytes)?;
-    if bytes.is_empty() {
-        say_fault(rt, 1, "there is no script")?;
-        return Ok(None);
-    }
     match String::from_utf8(bytes) {
         Ok(text) => Ok(Some(text)),
         Err(_) => {

@@ -96,13 +96,13 @@ pub record Begins (file : List ℕ) (t : trailers.Trailer) (shares : List ℕ) :
   pub lines : SharesRight (body file) t.scenarios t.place shares
 
 -- so is the contract part up to a place: C lines of these contracts, with key, loss and one rate a scenario
-pub record Goes_on (file : List ℕ) (t : trailers.Trailer) (shares : List ℕ) (place : ℕ) (entries : List Entry) : Type 0 where
+pub record GoesOn (file : List ℕ) (t : trailers.Trailer) (shares : List ℕ) (place : ℕ) (entries : List Entry) : Type 0 where
   pub before : Begins file t shares
   pub contracts : ContractsTo (part file t) (2 + t.scenarios) place entries
 
 -- the form of the file is right: these shares, these contracts, and as many of them as the trailer says
 pub record Form (file : List ℕ) (t : trailers.Trailer) (shares : List ℕ) (entries : List Entry) : Type 0 where
-  pub whole : Goes_on file t shares (length (part file t)) entries
+  pub whole : GoesOn file t shares (length (part file t)) entries
   pub count : length entries ≡ t.contracts
 
 -- under its trailer the S lines are wrong
@@ -117,7 +117,7 @@ pub record ContractFault (file : List ℕ) (p : ℕ) (w : Malformed) : Type 0 wh
   pub shares : List ℕ
   pub place : ℕ
   pub entries : List Entry
-  pub before : Goes_on file trailer shares place entries
+  pub before : GoesOn file trailer shares place entries
   pub wrong : NoContract (part file trailer) (2 + trailer.scenarios) place w
   pub told : p ≡ trailer.place + place
 
@@ -126,7 +126,7 @@ pub record CountFault (file : List ℕ) (p : ℕ) : Type 0 where
   pub trailer : trailers.Trailer
   pub shares : List ℕ
   pub entries : List Entry
-  pub whole : Goes_on file trailer shares (length (part file trailer)) entries
+  pub whole : GoesOn file trailer shares (length (part file trailer)) entries
   pub other : length entries ≢ trailer.contracts
   pub told : p ≡ trailer_at file
 
