@@ -1,9 +1,9 @@
 -- The look-up by halving, turn by turn, and what it finds where levels rise.
-use Rattle.std.proofs.Common.{◌≡◌, ℕ, zero, suc, ◌+◌, ◌-◌, ◌/◌, ◌<◌, ◌≤◌, Bool, true, false, cond, ltb, ◌⊎◌, List, length, get_or, take, sym, refl, ap, ◌∙◌, subst, inl, inr, arith, length-take}
+use Rattle.std.proofs.Common.{◌≡◌, ℕ, zero, suc, ◌+◌, ◌-◌, ◌<◌, ◌≤◌, ltb, List, get_or, sym, refl, ◌∙◌, subst, inl, inr, arith, length-take}
 use Rattle.std.proofs.lemmas.List.{get_or-take}
 use Rattle.std.proofs.lemmas.Bool.{cases_lt, cond-true, cond-false, lt-ltb, le-ltb}
-use Rattle.book.specs.Told.{middle, halved, found_below}
-use Rattle.book.specs.Theorems.{Rising, Splits, HalvingSplits}
+use Rattle.book.specs.Told.{middle, halved}
+use Rattle.book.specs.Theorems.{Splits, HalvingSplits}
 
 module _ (levels : List ℕ) (x : ℕ) where
   -- so many turns do from low to high, and come to r

@@ -1,5 +1,5 @@
 -- Contracts laid over the places in turn: what is left of them to lay.
-use Rattle.std.proofs.Common.{◌≡◌, ℕ, suc, ◌+◌, ◌<◌, ◌≤◌, Bool, true, false, ltb, List, [], ◌∷◌, map, length, get_or, drop, MatchBool, sym, refl, ap, ◌∙◌, subst, arith, drop-cons}
+use Rattle.std.proofs.Common.{◌≡◌, ℕ, suc, ◌+◌, ◌<◌, ◌≤◌, Bool, true, false, ltb, List, ◌∷◌, map, length, get_or, drop, MatchBool, sym, refl, ap, ◌∙◌, subst, arith, drop-cons}
 use Rattle.std.proofs.lemmas.List.{drop_all}
 use Rattle.reckoning.specs.Operations.{Operations}
 use Rattle.book.specs.declared.contract.Contract.{Contract}

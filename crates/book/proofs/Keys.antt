@@ -1,5 +1,5 @@
 -- Every contract has a key of its own: what entering, striking and re-rating keep of that.
-use Rattle.std.proofs.Common.{◌≡◌, ℕ, Bool, true, false, cond, not, ◌&&◌, ◌||◌, List, [], ◌∷◌, ◌++◌, sym, refl, ap, ◌∙◌, subst, inl, inr}
+use Rattle.std.proofs.Common.{◌≡◌, ℕ, Bool, true, false, not, ◌&&◌, ◌||◌, List, [], ◌∷◌, ◌++◌, sym, refl, ap, ◌∙◌, inl, inr}
 use Rattle.std.proofs.lemmas.Bool.{eqb-false, ne_eqb, cases_Bool, cond-true, cond-false, and_parts, and_from, or_parts, or_from}
 use Rattle.book.specs.Plain.{Entry, entry, same_key, holds_key, without, re_rated, distinct_keys}
 use Rattle.book.proofs.Somes.{some_append}

@@ -1,16 +1,14 @@
 -- Every book's list is lawful, by what the types of book, shares, contract, loss and rate keep.
-use Rattle.std.proofs.Common.{◌≡◌, ℕ, zero, suc, ◌<◌, ◌≤◌, Bool, true, false, not, ◌||◌, eqb, List, [], ◌∷◌, map, length, take, vec_items, vec_len, sym, refl, ap, ◌∙◌, subst, arith, length-take-le}
+use Rattle.std.proofs.Common.{◌≡◌, ℕ, zero, suc, ◌≤◌, false, not, eqb, List, [], ◌∷◌, map, length, take, vec_items, sym, refl, ap, ◌∙◌, subst, arith, length-take-le}
 use Rattle.std.specs.List.{AllByRecursion}
 use Rattle.std.proofs.lemmas.List.{length-map}
 use Rattle.std.proofs.lemmas.Bool.{le-ltb, eq-eqb, or_from}
 use Rattle.reckoning.specs.declared.rate.Rate.{Rate}
 use Rattle.reckoning.specs.Outcomes.{summed, outside, rate_wrong}
-use Rattle.book.specs.declared.book.Book.{Book}
 use Rattle.book.specs.declared.contract.Contract.{Contract}
-use Rattle.book.specs.Declines.{shares_wrong, rates_wrong}
 use Rattle.book.specs.Entries.{millionths_of, entry_of}
-use Rattle.book.specs.Lawful.{LawfulEntry, Lawful, BooksAreLawful}
-use Rattle.book.specs.Listed.{shares_of, listed}
+use Rattle.book.specs.Lawful.{LawfulEntry, BooksAreLawful}
+use Rattle.book.specs.Listed.{shares_of}
 use Rattle.book.specs.Some.{some}
 use Rattle.book.proofs.Ranges.{not_outside, loss_right}
 

@@ -1,5 +1,5 @@
 -- What the places lay: the book without contracts, and one contract more.
-use Rattle.std.proofs.Common.{◌≡◌, ℕ, zero, suc, ◌+◌, ◌-◌, ◌*◌, ◌<◌, ◌≤◌, Bool, true, false, List, [], ◌∷◌, ◌++◌, map, length, get_or, take, drop, set, sym, refl, ap, ◌∙◌, subst, arith}
+use Rattle.std.proofs.Common.{◌≡◌, ℕ, ◌+◌, ◌-◌, ◌*◌, ◌<◌, ◌≤◌, Bool, true, false, List, [], ◌∷◌, ◌++◌, map, length, get_or, take, drop, set, sym, refl, ap, ◌∙◌, arith}
 use Rattle.std.proofs.lemmas.List.{take_at, take_more_set, length-map, length-take, length-drop, map_push}
 use Rattle.std.proofs.lemmas.Bool.{ne_eqb, or_from, lt-ltb, le-ltb}
 use Rattle.reckoning.specs.Operations.{Operations}

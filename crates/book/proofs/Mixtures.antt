@@ -1,9 +1,9 @@
 -- Sums over the scenarios in order.
-use Rattle.std.proofs.Common.{◌≡◌, ℕ, zero, suc, ◌+◌, ◌*◌, ◌<◌, ◌≤◌, List, [], ◌∷◌, length, get_or, take, drop, sym, refl, ap, ◌∙◌, mul-le-mul_left, arith}
+use Rattle.std.proofs.Common.{◌≡◌, ℕ, zero, suc, ◌+◌, ◌*◌, ◌<◌, ◌≤◌, List, [], ◌∷◌, length, get_or, take, refl, ap, ◌∙◌, mul-le-mul_left, arith}
 use Rattle.std.specs.List.{AllByRecursion}
 use Rattle.std.proofs.lemmas.List.{take_all}
 use Rattle.reckoning.specs.Outcomes.{summed}
-use Rattle.reckoning.specs.Sums.{summed_append, summed_more, weighed_apart, weighed_zero}
+use Rattle.reckoning.specs.Sums.{summed_more, weighed_apart, weighed_zero}
 use Rattle.book.specs.Figures.{numbered}
 
 pub length_numbered : (s : ℕ) (ws : List ℕ) → length (numbered s ws) ≡ length ws

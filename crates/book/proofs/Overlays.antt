@@ -1,5 +1,5 @@
 -- A contract laid over any places, as the turns of the merge leave them.
-use Rattle.std.proofs.Common.{◌≡◌, ℕ, ◌<◌, List, map, length, get_or, Some, None, Option, sym, ap, ◌∙◌, subst, arith}
+use Rattle.std.proofs.Common.{◌≡◌, ℕ, ◌<◌, List, length, get_or, Some, None, Option, sym, ap, ◌∙◌, subst, arith}
 use Rattle.std.proofs.lemmas.List.{length-map}
 use Rattle.reckoning.specs.declared.rate.Rate.{Rate}
 use Rattle.reckoning.specs.Operations.{Operations}

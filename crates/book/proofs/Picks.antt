@@ -1,9 +1,9 @@
 -- What `picked` keeps: gaps, last members, fronts.
-use Rattle.std.proofs.Common.{◌≡◌, ℕ, zero, suc, ◌+◌, ◌-◌, ◌<◌, ◌≤◌, Bool, true, false, cond, ◌&&◌, ◌||◌, leb, ◌⊎◌, List, [], ◌∷◌, ◌++◌, length, get_or, take, sym, refl, ap, ◌∙◌, subst, inl, inr, append_assoc, arith}
-use Rattle.std.proofs.lemmas.Bool.{cases_Bool, cases_lt, cond-true, cond-false, or_parts, or_left, or_right, or_from, or_cases, and_from, and_left, and_right, and_parts, le-leb, lt-leb, leb-true, leb-false, both_ways}
+use Rattle.std.proofs.Common.{◌≡◌, ℕ, zero, suc, ◌+◌, ◌-◌, ◌<◌, ◌≤◌, Bool, true, false, List, [], ◌∷◌, ◌++◌, length, get_or, take, sym, refl, ap, ◌∙◌, subst, inl, inr, append_assoc, arith}
+use Rattle.std.proofs.lemmas.Bool.{cases_Bool, cases_lt, cond-true, cond-false}
 use Rattle.std.proofs.lemmas.List.{append-nil, take_at, take-take, length_push, length-append, get_or-take, get_or_push, get_or_append_left, length-take}
 use Rattle.book.specs.Levels.{picked}
-use Rattle.book.specs.Merging.{widened, Last}
+use Rattle.book.specs.Merging.{Last}
 
 module _ (S : ℕ → Bool) where
   pub picked_yes : (n : ℕ) → S n ≡ true → picked S (suc n) ≡ picked S n ++ (n ∷ [])

@@ -1,15 +1,15 @@
 -- Sets of levels: what is picked of them, what one contract more reaches, and that outcomes come to just that.
-use Rattle.std.proofs.Common.{◌≡◌, ℕ, zero, suc, ◌+◌, ◌-◌, ◌<◌, ◌≤◌, Bool, true, false, cond, ◌&&◌, ◌||◌, eqb, leb, ◌⊎◌, List, [], ◌∷◌, ◌++◌, length, get_or, sym, refl, ap, ◌∙◌, subst, inl, inr, append_assoc, arith}
-use Rattle.std.specs.List.{ContainsAt, AllByRecursion}
-use Rattle.std.proofs.ByRecursion.{All-append, has_get_or}
+use Rattle.std.proofs.Common.{◌≡◌, ℕ, zero, suc, ◌+◌, ◌-◌, ◌<◌, ◌≤◌, Bool, true, false, cond, ◌&&◌, ◌||◌, eqb, leb, List, [], ◌∷◌, ◌++◌, length, sym, refl, ap, ◌∙◌, subst, inl, inr, append_assoc, arith}
+use Rattle.std.specs.List.{ContainsAt}
+use Rattle.std.proofs.ByRecursion.{has_get_or}
 use Rattle.std.proofs.lemmas.List.{append-nil, length_push, get_or_default}
-use Rattle.std.proofs.lemmas.Bool.{cases_lt, cases_order, and_left, or_right, or_cases, and_from, and_parts, le-leb, lt-leb, leb-true, eq-eqb, eqb-true}
+use Rattle.std.proofs.lemmas.Bool.{cases_lt, cases_order, and_left, or_right, or_cases, and_from, le-leb, lt-leb, eq-eqb, eqb-true}
 use Rattle.std.proofs.lemmas.Bool.Decides.{nat_tests}
-use Rattle.reckoning.specs.Outcomes.{Outcome, Family, lost, loss, extended, outcomes}
-use Rattle.book.specs.Levels.{picked, comes_to, kept}
+use Rattle.reckoning.specs.Outcomes.{Outcome, Family, loss, extended, outcomes}
+use Rattle.book.specs.Levels.{picked, comes_to}
 use Rattle.book.specs.Merging.{widened, reached, only_zero}
 use Rattle.book.specs.Some.{some}
-use Rattle.book.specs.Theorems.{Rising, AllAtMost, OutcomeOf, KeptRise, KeptUnderCeiling, KeptAreLosses, KeptByMerging}
+use Rattle.book.specs.Theorems.{Rising, AllAtMost, KeptRise, KeptUnderCeiling, KeptAreLosses, KeptByMerging}
 use Rattle.book.proofs.Picks.{picked_yes, rank_mono, select}
 use Rattle.book.proofs.Descents.{own_widened}
 use Rattle.book.proofs.Families.{Sized, outcomes_sized, loss_push}

@@ -1,14 +1,14 @@
 -- The values beside the levels: what a turn reads, and what it writes.
-use Rattle.std.proofs.Common.{◌≡◌, ℕ, zero, suc, ◌+◌, ◌-◌, ◌<◌, ◌≤◌, Bool, true, false, cond, leb, ◌⊎◌, List, [], ◌∷◌, ◌++◌, map, length, get_or, take, drop, set, sym, refl, ap, ◌∙◌, subst, inl, inr, arith}
+use Rattle.std.proofs.Common.{◌≡◌, ℕ, zero, suc, ◌+◌, ◌-◌, ◌<◌, ◌≤◌, Bool, true, false, leb, ◌⊎◌, List, [], ◌∷◌, ◌++◌, map, length, get_or, take, drop, set, sym, ap, ◌∙◌, subst, inl, inr, arith}
 use Rattle.std.proofs.lemmas.Bool.{cases_Bool, cases_lt, both_ways, le-leb, lt-leb, cond-true, cond-false}
 use Rattle.std.proofs.lemmas.List.{length-take, length-map, length_push, take-take, take-map, map_push, get_or-take, get_or_push, take-set-le, nil_from_length}
 use Rattle.book.specs.Levels.{picked}
 use Rattle.book.specs.Merging.{widened, Last}
 use Rattle.book.specs.Merging.{Flat}
-use Rattle.book.specs.Values.{lagged, entered}
+use Rattle.book.specs.Values.{lagged}
 use Rattle.book.proofs.Picks.{ends, last, rank_mono, front}
 use Rattle.book.proofs.Descents.{Left, own_widened, moved_widened, none_picked}
-use Rattle.book.proofs.Turns.{Reached, own_rank, end, turned, fewer, own_under, tail_more}
+use Rattle.book.proofs.Turns.{Reached, end, turned, fewer, own_under, tail_more}
 
 -- f does not change where S has no member
 pub flat_run : {V : Type 0} (S : ℕ → Bool) (f : ℕ → V) → Flat S f → (a b : ℕ) → a ≤ b → ((z : ℕ) → a < z → z ≤ b → S z ≡ false) → f b ≡ f a

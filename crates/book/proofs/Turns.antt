@@ -1,9 +1,9 @@
 -- What the turns of the merge have done so far: the count, and the levels as written.
-use Rattle.std.proofs.Common.{◌≡◌, ℕ, zero, suc, ◌+◌, ◌-◌, ◌^◌, ◌<◌, ◌≤◌, Bool, true, false, ◌⊎◌, List, [], ◌∷◌, ◌++◌, length, get_or, take, drop, set, sym, refl, ap, ◌∙◌, subst, inl, inr, append_assoc, arith}
-use Rattle.std.proofs.lemmas.Bool.{cases_Bool, cases_lt}
+use Rattle.std.proofs.Common.{◌≡◌, ℕ, zero, suc, ◌+◌, ◌-◌, ◌<◌, ◌≤◌, Bool, ◌⊎◌, List, [], ◌∷◌, ◌++◌, length, take, drop, set, sym, ap, ◌∙◌, inl, inr, append_assoc, arith}
+use Rattle.std.proofs.lemmas.Bool.{cases_Bool}
 use Rattle.std.proofs.lemmas.List.{length-take, length_push, take-set-le, drop-set, nil_from_length}
 use Rattle.book.specs.Levels.{picked}
-use Rattle.book.specs.Merging.{widened, Last}
+use Rattle.book.specs.Merging.{widened}
 use Rattle.book.proofs.Picks.{picked_yes, picked_no, gap, ends, rank_mono}
 use Rattle.book.proofs.Descents.{Left, own_widened, not_widened, none_picked}
 

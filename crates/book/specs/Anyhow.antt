@@ -1,5 +1,5 @@
 -- What entering a contract does over places that hold anything.
-use Rattle.std.specs.Prelude.{◌≡◌, ℕ, ◌+◌, ◌-◌, ◌*◌, ◌<◌, Bool, true, false, cond, List, length, Some, None, Option, MatchOption, nat_lt, slice_index}
+use Rattle.std.specs.Prelude.{◌≡◌, ℕ, ◌+◌, ◌-◌, ◌*◌, ◌<◌, true, false, cond, List, length, Some, None, Option, MatchOption, nat_lt, slice_index}
 use Rattle.reckoning.specs.Enclosing as Enclosing
 use Rattle.reckoning.specs.Operations.{Operations}
 use Rattle.book.specs.declared.book.Book.{Book}

@@ -1,5 +1,5 @@
 -- The figures that calls tell.
-use Rattle.std.specs.Prelude.{ℕ, suc, ◌-◌, Bool, cond, List, [], ◌∷◌, ◌==◌, slice_index_or}
+use Rattle.std.specs.Prelude.{ℕ, suc, ◌-◌, cond, List, [], ◌∷◌, ◌==◌, slice_index_or}
 use Rattle.reckoning.specs.declared.grains.Grains.{Grains}
 use Rattle.reckoning.specs.Enclosing.{bounds, checked}
 use Rattle.reckoning.specs.Rounding.{pair, rounded_out}

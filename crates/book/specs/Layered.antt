@@ -1,5 +1,5 @@
 -- What the places tell of a layer, whatever lies there: the level at each place counts for the stretch up to the next one.
-use Rattle.std.specs.Prelude.{ℕ, zero, suc, ◌+◌, ◌-◌, ◌*◌, min, max, Bool, cond, List, nat_lt, slice_index}
+use Rattle.std.specs.Prelude.{ℕ, zero, suc, ◌+◌, ◌-◌, ◌*◌, min, max, cond, List, nat_lt, slice_index}
 use Rattle.reckoning.specs.declared.grains.Grains.{Grains}
 use Rattle.book.specs.declared.book.Book.{Book}
 use Rattle.book.specs.Reserved.{mix_beside}

@@ -1,5 +1,5 @@
 -- How the merge sees levels: as a set that each contract widens, and values as steps at its members.
-use Rattle.std.specs.Prelude.{◌≡◌, ℕ, suc, ◌+◌, ◌-◌, ◌*◌, ◌<◌, ◌≤◌, Bool, true, false, ◌&&◌, ◌||◌, List, [], ◌∷◌, ◌++◌, map, length, take, drop, ◌==◌, nat_le}
+use Rattle.std.specs.Prelude.{◌≡◌, ℕ, suc, ◌+◌, ◌-◌, ◌*◌, ◌<◌, Bool, true, false, ◌&&◌, ◌||◌, List, [], ◌∷◌, ◌++◌, map, length, take, drop, ◌==◌, nat_le}
 use Rattle.reckoning.specs.Operations.{Operations}
 use Rattle.book.specs.Levels.{picked}
 use Rattle.book.specs.Values.{entered}

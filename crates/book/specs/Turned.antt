@@ -1,5 +1,5 @@
 -- What the merge makes of levels and values, whatever they are: turn by turn, from the highest place down.
-use Rattle.std.specs.Prelude.{ℕ, zero, suc, ◌+◌, ◌-◌, min, Bool, cond, List, ◌==◌, nat_lt, slice_index, slice_index_or, slice_set}
+use Rattle.std.specs.Prelude.{ℕ, zero, suc, ◌+◌, ◌-◌, min, cond, List, ◌==◌, nat_lt, slice_index, slice_index_or, slice_set}
 use Rattle.reckoning.specs.Operations.{Operations}
 use Rattle.book.specs.declared.merging.Step.{Step}
 

@@ -1,5 +1,5 @@
 -- The value at each level of a book, by the recursion over its contracts.
-use Rattle.std.specs.Prelude.{ℕ, ◌-◌, Bool, cond, List, [], ◌∷◌, map, nat_le, slice_index}
+use Rattle.std.specs.Prelude.{ℕ, ◌-◌, cond, List, [], ◌∷◌, map, nat_le, slice_index}
 use Rattle.reckoning.specs.Operations.{Operations}
 use Rattle.book.specs.Plain.{Plain}
 

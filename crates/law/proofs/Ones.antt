@@ -1,5 +1,5 @@
 -- What one call does, from what its own clauses say.
-use Rattle.std.proofs.Common.{◌≡◌, ℕ, IfOk, IfErr, Some, None, Ok, Err, Option, Result, sym, refl, ap, ◌∙◌, subst, arith}
+use Rattle.std.proofs.Common.{◌≡◌, ℕ, IfOk, IfErr, Some, None, Ok, Err, Result, sym, refl, ◌∙◌, subst, arith}
 use Rattle.reckoning.specs.Operations.{Operations}
 use Rattle.law.specs.declared.call.Call.{Call}
 use Rattle.law.specs.declared.call.Answer.{Answer}
@@ -9,8 +9,8 @@ use Rattle.book.specs.Declines.{Handed}
 use Rattle.book.specs.Laid.{State, Holds, Outside}
 use Rattle.book.specs.Listed.{listed}
 use Rattle.book.specs.Plain.{scenarios}
-use Rattle.book.specs.Refusals.{number_of, refusal_of}
-use Rattle.law.specs.Runs.{declines, changed, answer, number_of_answer, answered, DeclinedAs, Right, One}
+use Rattle.book.specs.Refusals.{refusal_of}
+use Rattle.law.specs.Runs.{declines, changed, answer, number_of_answer, answered, DeclinedAs, One}
 use Rattle.law.proofs.Runs.{outside_same}
 
 -- what one call does, and that it is declined by the list whatever the places hold

@@ -1,10 +1,10 @@
 -- The list of all outcomes has each once.
-use Rattle.std.proofs.Common.{◌≡◌, ℕ, zero, suc, ◌+◌, Bool, true, false, cond, not, ◌&&◌, ◌⊎◌, List, [], ◌∷◌, ◌++◌, length, sym, refl, ap, ◌∙◌, subst, inl, inr, arith, length-append}
+use Rattle.std.proofs.Common.{◌≡◌, ℕ, zero, suc, ◌+◌, Bool, true, false, cond, ◌&&◌, [], ◌∷◌, ◌++◌, length, refl, ap, ◌∙◌, arith, length-append}
 use Rattle.std.specs.List.{AllByRecursion}
 use Rattle.std.proofs.ByRecursion.{All-append}
 use Rattle.std.proofs.lemmas.Bool.{and_left, and_right, cond-false}
 use Rattle.reckoning.specs.Every.{same_claim, same_outcome, times, EachOnce}
-use Rattle.reckoning.specs.Outcomes.{Outcome, Family, extended, outcomes, summed}
+use Rattle.reckoning.specs.Outcomes.{Outcome, Family, extended, outcomes}
 use Rattle.reckoning.specs.Sums.{summed_append}
 
 -- ---- outcomes by their last contract

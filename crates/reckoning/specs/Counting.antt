@@ -1,5 +1,5 @@
 -- Claims: the greatest number of claims in a family.
-use Rattle.std.specs.Prelude.{◌≡◌, ℕ, suc, ◌<◌, ◌≤◌, min, max, Bool, true, false, cond, List, [], ◌∷◌, Some, None, Option, ◌==◌, nat_lt}
+use Rattle.std.specs.Prelude.{◌≡◌, ℕ, suc, ◌<◌, ◌≤◌, min, max, true, false, cond, List, [], ◌∷◌, Some, None, Option, ◌==◌, nat_lt}
 use Rattle.std.specs.List.{ContainsAt}
 use Rattle.reckoning.specs.Outcomes.{Outcome, Family, weight}
 use Rattle.reckoning.specs.Operations.{Operations}

@@ -1,5 +1,5 @@
 -- Weights where one contract more has entered.
-use Rattle.std.specs.Prelude.{◌≡◌, ℕ, ◌+◌, ◌-◌, ◌*◌, Bool, true, false, List, [], ◌∷◌, ◌++◌, refl}
+use Rattle.std.specs.Prelude.{◌≡◌, ℕ, ◌+◌, ◌*◌, Bool, true, false, List, [], ◌∷◌, ◌++◌, refl}
 use Rattle.std.proofs.Common.{sym, ap, ◌∙◌, mul_assoc, arith}
 use Rattle.reckoning.specs.Outcomes.{Outcome, Family, odds, weight, total, extended, either}
 use Rattle.reckoning.specs.Sums.{summed_append}

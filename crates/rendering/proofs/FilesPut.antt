@@ -12,7 +12,6 @@ use Rattle.tariff.specs.Grammar.{lines_text}
 use Rattle.lines.specs.Places.{written}
 use Rattle.lines.specs.Texts.{line_text, trailer_text}
 use Rattle.tariff.proofs.LineWalks.{lines_text_push}
-use Rattle.lines.proofs.Padded.{length_padded}
 use Rattle.rendering.proofs.Tellings.{written_thrice}
 use Rattle.rendering.proofs.Writings.{written_more}
 

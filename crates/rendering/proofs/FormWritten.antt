@@ -2,7 +2,7 @@
 use Rattle.std.proofs.Common.{ℕ, ◌+◌, ◌^◌, ◌<◌, ◌≤◌, length, arith}
 use Rattle.std.proofs.ByRecursion.{All-weaker}
 use Rattle.book.specs.Lawful.{LawfulEntry, Lawful}
-use Rattle.book.specs.Plain.{Entry, Plain, size, scenarios}
+use Rattle.book.specs.Plain.{Entry, Plain, scenarios}
 use Rattle.tariff.specs.Files.{numbers_of, shares_text, contracts_text, file_text}
 use Rattle.tariff.specs.Forms.{Form, FieldsFit, trailer_of}
 use Rattle.tariff.specs.Grammar.{Numbers}

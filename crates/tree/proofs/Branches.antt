@@ -1,5 +1,5 @@
 -- The outcomes that are counted, where one pair more stands at the end.
-use Rattle.std.proofs.Common.{◌≡◌, ℕ, suc, ◌+◌, ◌-◌, ◌^◌, ◌<◌, ◌≤◌, Bool, true, false, cond, ◌&&◌, ltb, leb, List, [], ◌∷◌, ◌++◌, length, get_or, take, sym, refl, ap, ◌∙◌, inl, inr, add-one, arith, length-append}
+use Rattle.std.proofs.Common.{◌≡◌, ℕ, suc, ◌+◌, ◌-◌, ◌^◌, ◌<◌, Bool, true, false, cond, ◌&&◌, ltb, leb, List, [], ◌∷◌, ◌++◌, length, get_or, take, sym, refl, ap, ◌∙◌, inl, inr, add-one, arith, length-append}
 use native.Mathlib.Nat.{sub-zero, two-pow-succ}
 use Rattle.std.proofs.lemmas.List.{length_push, length-map, map_push, nil_from_length, take_all, take_more}
 use Rattle.std.proofs.lemmas.List.Elements.{filter-append}

@@ -1,4 +1,4 @@
-use Rattle.std.proofs.Common.{◌+◌, ◌-◌, ◌/◌, ◌<◌, refl, arith, rules}
+use Rattle.std.proofs.Common.{◌+◌, ◌-◌, ◌/◌, refl, arith}
 use Rattle.book.proofs.Picks.{place_below, place_above, rank_within}
 use Rattle.book.proofs.Halvings.{turn_up, turn_down, turns_end}
 use Rattle.book.proofs.merging.below.Goals as goal

@@ -1,6 +1,4 @@
-use Rattle.std.proofs.Common.{◌≡◌, ℕ, ◌+◌, ◌-◌, ◌<◌, Bool, List, ◌++◌, length, take, drop, sym, refl, ap, ◌∙◌, inl, inr, arith, rules}
-use Rattle.book.specs.Levels.{picked}
-use Rattle.book.specs.Merging.{widened}
+use Rattle.std.proofs.Common.{◌≡◌, ℕ, ◌+◌, ◌-◌, ◌<◌, drop, sym, refl, ap, ◌∙◌, inl, inr, arith, rules}
 use Rattle.std.proofs.lemmas.List.{drop-set-lt}
 use Rattle.book.specs.Told.{found_below}
 use Rattle.book.specs.Turned.{levels_turned}

@@ -1,4 +1,4 @@
-use Rattle.std.proofs.Common.{◌≡◌, ℕ, ◌+◌, ◌-◌, ◌*◌, ◌≤◌, Bool, length, take, drop}
+use Rattle.std.proofs.Common.{◌≡◌, ℕ, ◌+◌, ◌-◌, ◌≤◌, Bool, length, take, drop}
 use Rattle.book.specs.Levels.{picked}
 use Rattle.book.specs.Merging.{widened}
 use Rattle.book.specs.Told.{found_below}

@@ -1,6 +1,4 @@
-use Rattle.std.proofs.Common.{◌≡◌, ℕ, ◌+◌, ◌-◌, ◌*◌, Bool, length, take, sym, ap, ◌∙◌, arith, rules}
-use Rattle.book.specs.Levels.{picked}
-use Rattle.book.specs.Merging.{widened}
+use Rattle.std.proofs.Common.{◌≡◌, ℕ, ◌+◌, ◌-◌, ◌*◌, sym, ap, ◌∙◌, arith, rules}
 use Rattle.book.specs.Told.{found_below}
 use Rattle.book.specs.Turned.{turns}
 use Rattle.book.proofs.Turns.{counted, count_end}

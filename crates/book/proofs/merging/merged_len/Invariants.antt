@@ -1,6 +1,5 @@
-use Rattle.std.proofs.Common.{◌≡◌, ℕ, ◌+◌, ◌-◌, ◌*◌, ◌≤◌, Bool, length, take}
+use Rattle.std.proofs.Common.{◌≡◌, ℕ, ◌+◌, ◌-◌, ◌*◌, ◌≤◌, Bool, take}
 use Rattle.book.specs.Levels.{picked}
-use Rattle.book.specs.Merging.{widened}
 use Rattle.book.specs.Told.{found_below}
 use Rattle.book.specs.Turned.{turns}
 use Rattle.book.proofs.Turns.{Counting}

@@ -1,4 +1,4 @@
-use Rattle.std.proofs.Common.{◌≡◌, ℕ, ◌+◌, ◌-◌, ◌*◌, ◌/◌, ◌≤◌, length, sym, ap, ◌∙◌, subst, arith}
+use Rattle.std.proofs.Common.{◌≡◌, ℕ, ◌+◌, ◌*◌, ◌/◌, ◌≤◌, length, sym, ap, ◌∙◌, subst, arith}
 use Rattle.reckoning.specs.declared.grains.Grains.{Grains}
 use Rattle.reckoning.specs.Enclosing.{Ranged}
 use Rattle.reckoning.specs.Outcomes.{summed}

@@ -1,4 +1,4 @@
-use Rattle.std.proofs.Common.{[], sym, ◌∙◌, subst, arith, rules}
+use Rattle.std.proofs.Common.{[], sym, ◌∙◌, subst, arith}
 use Rattle.book.proofs.Lookups.{told_some, told_none}
 use Rattle.book.proofs.telling.told.Goals as goal
 

@@ -2,7 +2,6 @@ use Rattle.std.proofs.Common.{◌≡◌, ℕ, ◌+◌, ◌-◌, ◌≤◌, lengt
 use Rattle.std.proofs.lemmas.List.{get_or-map}
 use Rattle.reckoning.specs.declared.rate.Rate.{Rate}
 use Rattle.book.specs.Entries.{millionths_of}
-use Rattle.book.specs.Merging.{Follows}
 use Rattle.book.proofs.Strides.{ends_within, put_step, stride_end, MergedRow}
 use Rattle.book.proofs.valuing.merge_rows.Goals as goal
 

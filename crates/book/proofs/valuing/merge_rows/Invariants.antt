@@ -1,4 +1,4 @@
-use Rattle.std.proofs.Common.{◌*◌, get_or}
+use Rattle.std.proofs.Common.{get_or}
 use Rattle.book.specs.Entries.{millionths_of}
 use Rattle.book.proofs.Strides.{Strided, MergedRow}
 use Rattle.book.proofs.valuing.merge_rows.Given as goal

@@ -1,8 +1,7 @@
-use Rattle.std.proofs.Common.{◌≡◌, ℕ, length, sym, refl, ap, ◌∙◌, subst}
+use Rattle.std.proofs.Common.{ℕ, length, sym, refl, ap, ◌∙◌, subst}
 use Rattle.reckoning.specs.declared.grains.Grains.{Grains}
 use Rattle.law.specs.declared.call.Call.{Call}
 use Rattle.law.specs.declared.call.Call.TheVariants.{Enter, ReRate, Strike, BoundsAt, ValueAt, ChanceAt, ReserveFor, LayerOf}
-use Rattle.law.specs.declared.call.Answer.{Answer}
 use Rattle.law.specs.declared.call.Answer.TheVariants.{Bounds, Value, Chance, Reserve, Layer}
 use Rattle.book.specs.declared.found.Found.{Found}
 use Rattle.book.specs.Declines.{handed}

@@ -1,4 +1,4 @@
-use Rattle.std.proofs.Common.{◌^◌, ◌<◌, drop, vec_items, arith, rules}
+use Rattle.std.proofs.Common.{vec_items, arith, rules}
 use Rattle.std.proofs.lemmas.Result.{IfOk-from_err}
 use Rattle.rendering.specs.Printed.{refusal_text}
 use Rattle.rendering.proofs.Tables.{refusal_fits, told_appended}

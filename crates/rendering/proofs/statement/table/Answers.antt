@@ -1,7 +1,5 @@
-use Rattle.std.proofs.Common.{◌≡◌, ℕ, ◌<◌, false, [], length, get_or, vec_items, ap, ◌∙◌, refl, arith}
-use Rattle.reckoning.specs.Counting.{counts}
-use Rattle.book.specs.Declines.{handed, places_wrong}
-use Rattle.book.specs.Laid.{places_of, Holds}
+use Rattle.std.proofs.Common.{◌≡◌, ℕ, ◌<◌, [], length, get_or, vec_items, ap, ◌∙◌, arith}
+use Rattle.book.specs.Declines.{handed}
 use Rattle.book.specs.Levels.{kept}
 use Rattle.book.specs.Listed.{listed}
 use Rattle.book.specs.Plain.{losses}

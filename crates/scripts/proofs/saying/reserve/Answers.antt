@@ -1,4 +1,4 @@
-use Rattle.std.proofs.Common.{◌≡◌, ℕ, List, [], ◌∷◌, ◌++◌, string_bytes, sym, ap, ◌∙◌, append_assoc, arith}
+use Rattle.std.proofs.Common.{◌≡◌, ℕ, List, [], ◌∷◌, ◌++◌, string_bytes, ap, ◌∙◌, append_assoc, arith}
 use Rattle.scripts.specs.Said.{level_said}
 use Rattle.scripts.proofs.saying.reserve.Goals as goal
 

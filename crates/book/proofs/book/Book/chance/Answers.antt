@@ -1,4 +1,4 @@
-use Rattle.std.proofs.Common.{◌≡◌, ℕ, ◌+◌, ap, ◌∙◌, arith, rules}
+use Rattle.std.proofs.Common.{ℕ, ◌+◌, ap, ◌∙◌, arith, rules}
 use Rattle.reckoning.specs.Enclosing as Enclosing
 use Rattle.book.specs.Figures.{mixed_at, told_in}
 use Rattle.book.specs.Listed.{shares_of, listed}

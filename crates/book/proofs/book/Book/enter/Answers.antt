@@ -1,7 +1,7 @@
 use Rattle.std.proofs.Common.{◌≡◌, ℕ, true, false, List, [], ◌∷◌, ◌++◌, map, length, Some, None, vec_items, Option, sym, refl, ap, ◌∙◌, subst, arith, rules}
 use Rattle.std.proofs.lemmas.List.{map_push}
 use Rattle.book.specs.Declines.{handed, too_many_levels, enter_early}
-use Rattle.book.specs.Laid.{places_of, Outside, Lays, Framed}
+use Rattle.book.specs.Laid.{places_of, Outside, Lays}
 use Rattle.book.specs.Entries.{entry_of}
 use Rattle.book.specs.Listed.{shares_of, listed}
 use Rattle.book.specs.Plain.{Entry, Plain, holds_key, distinct_keys, with_entry}

@@ -1,8 +1,7 @@
-use Rattle.std.proofs.Common.{◌≡◌, ℕ, ◌+◌, ◌-◌, ◌*◌, ◌<◌, ◌≤◌, length, take, sym, refl, ap, ◌∙◌, subst, arith}
+use Rattle.std.proofs.Common.{◌≡◌, ℕ, ◌+◌, ◌-◌, ◌*◌, ◌<◌, ◌≤◌, length, sym, refl, ap, ◌∙◌, subst, arith}
 use Rattle.reckoning.specs.Enclosing as Enclosing
 use Rattle.reckoning.specs.declared.grains.Grains.{Grains}
 use Rattle.book.specs.Figures.{chance}
-use Rattle.book.specs.Levels.{picked}
 use Rattle.book.specs.Listed.{listed}
 use Rattle.book.specs.Merging.{reached, only_zero}
 use Rattle.book.specs.Plain.{losses}

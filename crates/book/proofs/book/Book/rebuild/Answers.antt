@@ -1,5 +1,4 @@
-use Rattle.std.proofs.Common.{◌≡◌, ℕ, List, map, length, sym, refl, ap, ◌∙◌, subst, rules}
-use Rattle.book.specs.declared.contract.Contract.{Contract}
+use Rattle.std.proofs.Common.{◌≡◌, ℕ, map, length, sym, refl, ap, ◌∙◌, subst}
 use Rattle.book.specs.Laid.{places_of, Outside}
 use Rattle.book.specs.Entries.{entry_of}
 use Rattle.book.specs.Listed.{shares_of, listed}

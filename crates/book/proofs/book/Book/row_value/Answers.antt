@@ -1,4 +1,4 @@
-use Rattle.std.proofs.Common.{◌≡◌, ℕ, ◌+◌, ◌-◌, ◌*◌, [], ◌∷◌, length, refl, ap, ◌∙◌, arith, rules}
+use Rattle.std.proofs.Common.{ℕ, ◌+◌, ◌-◌, ◌*◌, [], ◌∷◌, length, refl, ap, ◌∙◌, arith, rules}
 use Rattle.book.specs.Figures.{told_at}
 use Rattle.book.specs.Listed.{listed}
 use Rattle.book.specs.Merging.{reached, only_zero, row_of}
