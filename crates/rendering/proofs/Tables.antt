@@ -1,6 +1,6 @@
 -- The lines of a statement, one after the other, and that each fits its buffer.
-use Rattle.std.proofs.Common.{◌≡◌, ℕ, ◌+◌, ◌-◌, ◌^◌, ◌<◌, ◌≤◌, false, ltb, leb, List, [], ◌∷◌, ◌++◌, length, get_or, take, Some, None, Option, Result, sym, ap, ◌∙◌, subst, append_assoc, arith, length-take}
-use Rattle.std.proofs.lemmas.List.{append-nil, take_at, take_all, take_more, get_or-take}
+use Rattle.std.proofs.Common.{◌≡◌, ℕ, ◌+◌, ◌-◌, ◌^◌, ◌<◌, ◌≤◌, false, ltb, leb, List, [], ◌∷◌, ◌++◌, map, length, get_or, take, Some, None, Option, Result, sym, ap, ◌∙◌, subst, append_assoc, arith, length-take}
+use Rattle.std.proofs.lemmas.List.{map_push, append-nil, take_at, take_all, take_more, get_or-take}
 use Rattle.std.proofs.lemmas.Bool.{cond-false, le-leb, le-ltb, not_from_true}
 use Rattle.reckoning.specs.declared.grains.Grains.{Grains}
 use Rattle.reckoning.specs.Counting.{counts}
@@ -13,10 +13,11 @@ use Rattle.book.specs.Levels.{kept}
 use Rattle.book.specs.Plain.{Plain, scenarios, losses}
 use Rattle.book.specs.Refusals.{Sentences, first}
 use Rattle.book.proofs.Reaches.{kept_under_ceiling}
+use Rattle.book.proofs.Handing.{handed_same}
 use Rattle.tariff.specs.declared.reading.FileRead.{FileRead}
 use Rattle.tariff.specs.declared.refusal.FileFault.{FileFault}
 use Rattle.tariff.specs.Filed.{ReadsFile}
-use Rattle.rendering.specs.Tables.{Row, table_text, Table, levels_text}
+use Rattle.rendering.specs.Tables.{Row, table_text, Table, row_at, levels_text}
 use Rattle.rendering.specs.Printed.{level_text, refusal_text}
 use Rattle.lines.proofs.Padded.{at_most_twenty}
 use Rattle.rendering.proofs.Tellings.{length_level_text, length_refusal_text}
@@ -48,10 +49,7 @@ pub table_same : (before after : List ℕ) → Table before → after ≡ before
 table_same before after (rows, is) same = (rows, same ∙ is)
 
 levels_push : (p : Plain) (ks : List ℕ) (k : ℕ) → levels_text p (ks ++ (k ∷ [])) ≡ levels_text p ks ++ level_text k (chance p 0 k).lower (chance p 0 k).upper
-levels_push p [] k = append-nil (level_text k (chance p 0 k).lower (chance p 0 k).upper)
-levels_push p (j ∷ ks) k =
-    let t = level_text j (chance p 0 j).lower (chance p 0 j).upper in
-    ap (λ (s : List ℕ). t ++ s) (levels_push p ks k) ∙ sym (append_assoc t (levels_text p ks) (level_text k (chance p 0 k).lower (chance p 0 k).upper))
+levels_push p ks k = ap table_text (map_push (row_at p) ks k) ∙ table_push (map (row_at p) ks) (row_at p k)
 
 -- the line of one level more
 pub levels_more : (p : Plain) (ks : List ℕ) (i level lower upper : ℕ) (before after : List ℕ) → i < length ks → get_or ks i 0 ≡ level → pair lower upper ≡ chance p 0 level →
@@ -95,4 +93,4 @@ chance_told h p level fit low =
 pub read_over : (file : List ℕ) (x y : State (Option ℕ)) (l b v : ℕ) (r : Result FileRead FileFault) → l ≡ 256 → b ≡ 2048 → v ≡ 2048 →
     ReadsFile counts (handed l b v) file x y r → ReadsFile counts (handed 256 2048 2048) file x y r
 read_over file x y l b v r is-l is_b is-v reads =
-    subst (λ (h : Handed). ReadsFile counts h file x y r) (ap (λ (n : ℕ). handed n b v) is-l ∙ ap (λ (n : ℕ). handed 256 n v) is_b ∙ ap (handed 256 2048) is-v) reads
+    subst (λ (h : Handed). ReadsFile counts h file x y r) (handed_same is-l is_b is-v) reads

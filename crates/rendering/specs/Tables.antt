@@ -1,5 +1,5 @@
 -- The statement of a file: a table of levels, one line for each kept level of the book that it gives, or one refusal.
-use Rattle.std.specs.Prelude.{◌≡◌, ℕ, Bool, true, false, List, [], ◌∷◌, ◌++◌, Ok, Err, Option, Result}
+use Rattle.std.specs.Prelude.{◌≡◌, ℕ, Bool, true, false, List, [], ◌∷◌, ◌++◌, map, Ok, Err, Option, Result}
 use Rattle.reckoning.specs.Counting.{counts}
 use Rattle.book.specs.Declines.{handed}
 use Rattle.book.specs.Figures.{chance}
@@ -29,10 +29,13 @@ Table text = (rows : List Row) × (text ≡ table_text rows)
 abbrev pub Refused : List ℕ → Type 0
 Refused text = (number : ℕ) × (place : ℕ) × (text ≡ refusal_text number place)
 
--- the lines of levels, each with its lower and upper chance in the mix
+-- the row of a level, with its lower and upper chance in the mix
+abbrev pub row_at : Plain → ℕ → Row
+row_at p k = record { level = k; lower = (chance p 0 k).lower; upper = (chance p 0 k).upper }
+
+-- the lines of levels
 abbrev pub levels_text : Plain → List ℕ → List ℕ
-levels_text p [] = []
-levels_text p (k ∷ ks) = level_text k (chance p 0 k).lower (chance p 0 k).upper ++ levels_text p ks
+levels_text p ks = table_text (map (row_at p) ks)
 
 -- the table of a list: a line for each kept level, in rising order
 abbrev pub table_of : Plain → List ℕ

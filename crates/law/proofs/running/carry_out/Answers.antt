@@ -1,4 +1,4 @@
-use Rattle.std.proofs.Common.{◌≡◌, ℕ, ◌+◌, ◌<◌, List, length, take, sym, refl, ap, ◌∙◌, subst, arith}
+use Rattle.std.proofs.Common.{◌≡◌, ◌+◌, ◌<◌, List, length, take, sym, refl, subst, arith}
 use Rattle.std.proofs.lemmas.List.{get_or_default}
 use Rattle.law.specs.declared.call.Answer.{Answer}
 use Rattle.book.specs.Declines.{handed}
@@ -6,6 +6,7 @@ use Rattle.book.specs.Laid.{state}
 use Rattle.law.specs.Law.{CarriedOut}
 use Rattle.book.specs.Listed.{listed}
 use Rattle.law.specs.Truth.{FiguresStand}
+use Rattle.book.proofs.Handing.{handed_same}
 use Rattle.law.proofs.Runs.{carried_none, law_step}
 use Rattle.law.proofs.Truths.{figures_stand_lem}
 use Rattle.law.proofs.running.carry_out.Goals as goal
@@ -31,10 +32,7 @@ loop-i-preserved g c = λ sound held.
     let x = state c.args.book.now c.args.levels.now c.args.bounds.now c.args.values.now in
     let y = state c.loop-i.book c.loop-i.levels c.loop-i.bounds c.loop-i.values in
     let z = state c.step-answer.new.book c.step-answer.new.levels c.step-answer.new.bounds c.step-answer.new.values in
-    let same : handed (length c.loop-i.levels) (length c.loop-i.bounds) (length c.loop-i.values) ≡ handed l b v =
-    ap (λ (n : ℕ). handed n (length c.loop-i.bounds) (length c.loop-i.values)) c.loop-i.auto.levels
-    ∙ ap (λ (n : ℕ). handed l n (length c.loop-i.values)) c.loop-i.auto.bounds
-    ∙ ap (λ (n : ℕ). handed l b n) c.loop-i.auto.values in
+    let same = handed_same c.loop-i.auto.levels c.loop-i.auto.bounds c.loop-i.auto.values in
     let within : c.loop-i.i < length c.args.calls.now = omega arith in
     let room : c.loop-i.i < length c.loop-i.answers = omega arith in
     subst (λ (answers : List (Answer g.row.R-Value.Denot)). CarriedOut ops stands (handed l b v) (listed c.args.book.now) (take (c.loop-i.i + 1) c.args.calls.now) x z c.args.answers.now answers) (sym c.put.ensures)

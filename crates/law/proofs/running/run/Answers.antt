@@ -1,8 +1,9 @@
-use Rattle.std.proofs.Common.{◌≡◌, ℕ, length, take, None, refl, ap, ◌∙◌, subst}
+use Rattle.std.proofs.Common.{ℕ, length, take, None, refl, subst}
 use Rattle.book.specs.Declines.{handed}
 use Rattle.book.specs.Laid.{state}
 use Rattle.law.specs.Law.{Law}
 use Rattle.law.specs.Truth.{FiguresStand}
+use Rattle.book.proofs.Handing.{handed_same}
 use Rattle.law.proofs.Runs.{law_run}
 use Rattle.law.proofs.Truths.{figures_stand_lem}
 use Rattle.law.proofs.running.run.Goals as goal
@@ -19,10 +20,7 @@ returns g c =
     let x = state c.args.book.now c.args.levels.now c.args.bounds.now c.args.values.now in
     let y = state c.open.new.self c.open.new.levels c.open.new.bounds c.open.new.values in
     let z = state c.carry_out.new.book c.carry_out.new.levels c.carry_out.new.bounds c.carry_out.new.values in
-    let same : handed (length c.open.new.levels) (length c.open.new.bounds) (length c.open.new.values) ≡ handed l b v =
-    ap (λ (n : ℕ). handed n (length c.open.new.bounds) (length c.open.new.values)) c.open.auto.levels
-    ∙ ap (λ (n : ℕ). handed l n (length c.open.new.values)) c.open.auto.bounds
-    ∙ ap (λ (n : ℕ). handed l b n) c.open.auto.values in
+    let same = handed_same c.open.auto.levels c.open.auto.bounds c.open.auto.values in
     let opens = c.in_ok-open.ensures in
     record {
       count = c.carry_out.ensures.count;

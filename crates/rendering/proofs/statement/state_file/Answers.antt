@@ -1,4 +1,4 @@
-use Rattle.std.proofs.Common.{◌≡◌, ℕ, List, ◌++◌, length, Ok, Err, refl, ap, ◌∙◌, rules}
+use Rattle.std.proofs.Common.{ℕ, List, ◌++◌, length, Ok, Err, refl, ap, ◌∙◌, rules}
 use Rattle.std.proofs.lemmas.Result.{IfOk-from_err}
 use Rattle.reckoning.specs.Counting.{counts}
 use Rattle.book.specs.Declines.{Handed, handed, places_wrong}
@@ -6,6 +6,7 @@ use Rattle.book.specs.Laid.{state}
 use Rattle.book.specs.Listed.{listed}
 use Rattle.tariff.specs.Refusals.{telling}
 use Rattle.rendering.specs.Printed.{refusal_text}
+use Rattle.book.proofs.Handing.{handed_same}
 use Rattle.tariff.proofs.Declined.{whole_fits}
 use Rattle.rendering.proofs.Tables.{read_over}
 use Rattle.rendering.proofs.statement.state_file.Goals as goal
@@ -24,10 +25,7 @@ returns-in_ok-text-in-Ok c =
     let l = length c.args.levels.now in
     let b = length c.args.bounds.now in
     let v = length c.args.values.now in
-    let same : handed (length c.read.new.levels) (length c.read.new.bounds) (length c.read.new.values) ≡ handed l b v =
-    ap (λ (n : ℕ). handed n (length c.read.new.bounds) (length c.read.new.values)) c.read.auto.levels
-    ∙ ap (λ (n : ℕ). handed l n (length c.read.new.values)) c.read.auto.bounds
-    ∙ ap (λ (n : ℕ). handed l b n) c.read.auto.values in
+    let same = handed_same c.read.auto.levels c.read.auto.bounds c.read.auto.values in
     let whole = c.in-Ok.ensures.reads in
     let fits = ap (λ (h : Handed). places_wrong h (listed c.read.new.book)) same ∙ whole_fits counts (handed l b v) c.args.file.now x y whole in
     record {

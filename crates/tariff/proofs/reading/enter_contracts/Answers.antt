@@ -1,7 +1,8 @@
-use Rattle.std.proofs.Common.{◌≡◌, ℕ, length, ap, ◌∙◌, arith}
+use Rattle.std.proofs.Common.{length, arith}
 use Rattle.std.proofs.lemmas.Result.{err_from_is_err_and}
 use Rattle.book.specs.Declines.{handed}
 use Rattle.book.specs.Laid.{state}
+use Rattle.book.proofs.Handing.{handed_same}
 use Rattle.tariff.proofs.Enterings.{so_far_none, so_far_more, part_entered, part_declined}
 use Rattle.tariff.proofs.reading.enter_contracts.Goals as goal
 
@@ -20,10 +21,7 @@ returns-in_err-place g c =
     let x = state c.args.book.now c.args.levels.now c.args.bounds.now c.args.values.now in
     let y = state c.loop-place.book c.loop-place.levels c.loop-place.bounds c.loop-place.values in
     let z = state c.enter_line.new.book c.enter_line.new.levels c.enter_line.new.bounds c.enter_line.new.values in
-    let same : handed (length c.loop-place.levels) (length c.loop-place.bounds) (length c.loop-place.values) ≡ handed l b v =
-    ap (λ (n : ℕ). handed n (length c.loop-place.bounds) (length c.loop-place.values)) c.loop-place.auto.levels
-    ∙ ap (λ (n : ℕ). handed l n (length c.loop-place.values)) c.loop-place.auto.bounds
-    ∙ ap (λ (n : ℕ). handed l b n) c.loop-place.auto.values in
+    let same = handed_same c.loop-place.auto.levels c.loop-place.auto.bounds c.loop-place.auto.values in
     let p = err_from_is_err_and c.from_residual.result c.from_residual.ensures.1 in
     let declined = c.in_err-place.ensures in
     record {
@@ -41,10 +39,7 @@ loop-place-preserved g c =
     let x = state c.args.book.now c.args.levels.now c.args.bounds.now c.args.values.now in
     let y = state c.loop-place.book c.loop-place.levels c.loop-place.bounds c.loop-place.values in
     let z = state c.enter_line.new.book c.enter_line.new.levels c.enter_line.new.bounds c.enter_line.new.values in
-    let same : handed (length c.loop-place.levels) (length c.loop-place.bounds) (length c.loop-place.values) ≡ handed l b v =
-    ap (λ (n : ℕ). handed n (length c.loop-place.bounds) (length c.loop-place.values)) c.loop-place.auto.levels
-    ∙ ap (λ (n : ℕ). handed l n (length c.loop-place.values)) c.loop-place.auto.bounds
-    ∙ ap (λ (n : ℕ). handed l b n) c.loop-place.auto.values in
+    let same = handed_same c.loop-place.auto.levels c.loop-place.auto.bounds c.loop-place.auto.values in
     let entered = c.in_ok-place.ensures in (
       entered.walks.1,
       entered.walks.2,

@@ -1,8 +1,9 @@
-use Rattle.std.proofs.Common.{◌≡◌, ℕ, ◌+◌, ◌-◌, length, take, ap, ◌∙◌, subst, arith}
+use Rattle.std.proofs.Common.{◌≡◌, ℕ, ◌+◌, ◌-◌, length, take, subst, arith}
 use Rattle.std.proofs.lemmas.Result.{err_from_is_err_and}
 use Rattle.book.specs.Declines.{handed}
 use Rattle.book.specs.Laid.{state}
 use Rattle.tariff.specs.Forms.{part, Form}
+use Rattle.book.proofs.Handing.{handed_same}
 use Rattle.tariff.proofs.Declined.{read_comes, read_unchanged}
 use Rattle.tariff.proofs.Filing.{form_declined, opening_declined, lines_from_contracts, read_entered, part_length}
 use Rattle.tariff.proofs.reading.read.Goals as goal
@@ -60,10 +61,7 @@ returns g c =
     let x = state c.args.book.now c.args.levels.now c.args.bounds.now c.args.values.now in
     let y = state c.open_for.new.book c.open_for.new.levels c.open_for.new.bounds c.open_for.new.values in
     let z = state c.enter_contracts.new.book c.enter_contracts.new.levels c.enter_contracts.new.bounds c.enter_contracts.new.values in
-    let same : handed (length c.open_for.new.levels) (length c.open_for.new.bounds) (length c.open_for.new.values) ≡ h =
-    ap (λ (n : ℕ). handed n (length c.open_for.new.bounds) (length c.open_for.new.values)) c.open_for.auto.levels
-    ∙ ap (λ (n : ℕ). handed l n (length c.open_for.new.values)) c.open_for.auto.bounds
-    ∙ ap (λ (n : ℕ). handed l b n) c.open_for.auto.values in
+    let same = handed_same c.open_for.auto.levels c.open_for.auto.bounds c.open_for.auto.values in
     let file = c.args.file.now in
     let t = c.in_ok-trailer.trailer in
     let formed = c.in_ok-trailer.ensures.reads in
