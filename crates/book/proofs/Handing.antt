@@ -1,6 +1,6 @@
 -- Places that are handed over, by their numbers.
 use Rattle.std.proofs.Common.{◌≡◌, ℕ, ap, ◌∙◌}
-use Rattle.book.specs.Declines.{handed}
+use Rattle.book.specs.Places.{handed}
 
 -- as many places of each kind are as many places
 pub handed_same : {l m b c v w : ℕ} → l ≡ m → b ≡ c → v ≡ w → handed l b v ≡ handed m c w

@@ -5,7 +5,8 @@ use Rattle.reckoning.specs.Operations.{Operations}
 use Rattle.book.specs.declared.contract.Contract.{Contract}
 use Rattle.book.specs.Anyhow.{count_over, LaidOver}
 use Rattle.book.specs.declared.frame.Frame.{Frame}
-use Rattle.book.specs.Laid.{Places, Outside, Framed}
+use Rattle.book.specs.Places.{Places}
+use Rattle.book.specs.Laid.{Outside, Framed}
 use Rattle.book.specs.Entries.{entry_of}
 use Rattle.book.specs.Plain.{Entry, Plain}
 use Rattle.book.specs.Rebuilt.{Begun, LaidInTurn, RebuiltOver}

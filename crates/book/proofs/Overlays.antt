@@ -6,7 +6,7 @@ use Rattle.reckoning.specs.Operations.{Operations}
 use Rattle.std.proofs.lemmas.Bool.{cond-true, cond-false}
 use Rattle.book.specs.declared.book.Book.{Book}
 use Rattle.book.specs.Anyhow.{moved_over, count_over, RowsOver, ExtendsOver, EntersOver}
-use Rattle.book.specs.Laid.{Places}
+use Rattle.book.specs.Places.{Places}
 use Rattle.book.specs.Entries.{millionths_of}
 use Rattle.book.specs.Merging.{row_of}
 use Rattle.book.specs.Turned.{levels_turned, row_turned}

@@ -6,7 +6,8 @@ use Rattle.reckoning.specs.Operations.{Operations}
 use Rattle.book.specs.declared.contract.Contract.{Contract}
 use Rattle.book.specs.Declines.{too_many_levels}
 use Rattle.book.specs.Fitting.{Fits}
-use Rattle.book.specs.Laid.{Places, RowsOutside, Outside, LevelsHold, Lays}
+use Rattle.book.specs.Places.{Places}
+use Rattle.book.specs.Laid.{RowsOutside, Outside, LevelsHold, Lays}
 use Rattle.book.specs.Levels.{kept}
 use Rattle.book.specs.Entries.{entry_of}
 use Rattle.book.specs.Plain.{Entry, Plain, losses, opened, with_entry, without, re_rated, with_entries}

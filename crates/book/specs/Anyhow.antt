@@ -3,7 +3,7 @@ use Rattle.std.specs.Prelude.{◌≡◌, ℕ, ◌+◌, ◌-◌, ◌*◌, ◌<◌
 use Rattle.reckoning.specs.Enclosing as Enclosing
 use Rattle.reckoning.specs.Operations.{Operations}
 use Rattle.book.specs.declared.book.Book.{Book}
-use Rattle.book.specs.Laid.{Places}
+use Rattle.book.specs.Places.{Places}
 use Rattle.book.specs.Merging.{row_of}
 use Rattle.book.specs.Told.{found_below}
 use Rattle.book.specs.Turned.{turns, levels_turned, row_turned}

@@ -2,18 +2,10 @@
 use Rattle.std.specs.Prelude.{ℕ, ◌+◌, ◌*◌, Bool, not, ◌||◌, List, [], ◌∷◌, ◌++◌, length, ◌==◌, nat_le, nat_lt}
 use Rattle.reckoning.specs.Outcomes.{summed, outside, loss_wrong, rate_wrong}
 use Rattle.book.specs.Levels.{kept}
+use Rattle.book.specs.declared.shown.Handed.{Handed}
 use Rattle.book.specs.Plain.{Plain, size, scenarios, losses, holds_key}
 use Rattle.book.specs.Refusals.{Sentences}
 use Rattle.book.specs.Some.{some}
-
--- how many places a call is handed
-pub record Handed : Type 0 where
-  pub levels : ℕ
-  pub bounds : ℕ
-  pub values : ℕ
-
-abbrev pub handed : ℕ → ℕ → ℕ → Handed
-handed l b v = record { levels = l; bounds = b; values = v }
 
 -- too few or too many places for n scenarios
 abbrev pub short : Handed → ℕ → Bool

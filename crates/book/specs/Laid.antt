@@ -1,6 +1,5 @@
 -- What lies in the places, and what a call keeps of it.
 use Rattle.std.specs.Prelude.{◌≡◌, ℕ, ◌+◌, ◌*◌, ◌<◌, ◌≤◌, true, false, List, map, length, take, drop, None, Option, MatchOption}
-use Rattle.reckoning.specs.declared.grains.Grains.{Grains}
 use Rattle.reckoning.specs.Enclosing as Enclosing
 use Rattle.reckoning.specs.Operations.{Operations}
 use Rattle.book.specs.declared.book.Book.{Book}
@@ -8,19 +7,12 @@ use Rattle.book.specs.declared.frame.Frame.{Frame}
 use Rattle.book.specs.Declines.{too_many_levels}
 use Rattle.book.specs.Levels.{kept}
 use Rattle.book.specs.Listed.{listed}
+use Rattle.book.specs.Places.{Places}
+use Rattle.book.specs.declared.shown.Handed.{Handed}
 use Rattle.book.specs.Plain.{Entry, Plain, scenarios, losses, with_entry}
 use Rattle.book.specs.Refusals.{Sentences, first}
 use Rattle.book.specs.Values.{value}
 use Rattle.book.specs.Merging.{row_of}
-
--- the places that a call is lent
-pub record Places (V : Type 0) : Type 0 where
-  pub levels : List ℕ
-  pub bounds : List Grains
-  pub values : List V
-
-abbrev pub places_of : {V : Type 0} → List ℕ → List Grains → List V → Places V
-places_of l b v = record { levels = l; bounds = b; values = v }
 
 -- rows are as they were, but for the first n places of each of the scenarios' rows of p places
 pub record RowsOutside {V : Type 0} (scenarios p n : ℕ) (old new : List V) : Type 0 where
@@ -38,15 +30,15 @@ pub record State (V : Type 0) : Type 0 where
   pub book : Book
   pub places : Places V
 
-abbrev pub state : {V : Type 0} → Book → List ℕ → List Grains → List V → State V
-state b l g v = record { book = b; places = places_of l g v }
+abbrev pub state : {V : Type 0} → Book → Places V → State V
+state b x = record { book = b; places = x }
 
 -- the places fit the book
-pub record Room (b : Book) (levels bounds values : ℕ) : Type 0 where
-  pub some : 1 ≤ levels
-  pub same : levels ≡ b.places
-  pub for_bounds : b.shares.count * b.places ≤ bounds
-  pub for_values : b.shares.count * b.places ≤ values
+pub record Room (b : Book) (h : Handed) : Type 0 where
+  pub some : 1 ≤ h.levels
+  pub same : h.levels ≡ b.places
+  pub for_bounds : b.shares.count * b.places ≤ h.bounds
+  pub for_values : b.shares.count * b.places ≤ h.values
 
 -- the first n level places hold the kept levels, and there are no more of them
 pub record LevelsHold (p : Plain) (n : ℕ) (levels : List ℕ) : Type 0 where

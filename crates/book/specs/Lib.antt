@@ -6,6 +6,7 @@ pub mod Values
 pub mod Merging
 pub mod Turned
 pub mod Figures
+pub mod Places
 pub mod Declines
 pub mod Listed
 pub mod Laid

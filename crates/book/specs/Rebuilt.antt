@@ -3,7 +3,8 @@ use Rattle.std.specs.Prelude.{◌≡◌, ℕ, ◌*◌, ◌<◌, List, [], ◌∷
 use Rattle.reckoning.specs.Enclosing as Enclosing
 use Rattle.reckoning.specs.Operations.{Operations}
 use Rattle.book.specs.Anyhow.{count_over, LaidOver}
-use Rattle.book.specs.Laid.{Places, Outside}
+use Rattle.book.specs.Places.{Places}
+use Rattle.book.specs.Laid.{Outside}
 use Rattle.book.specs.Merging.{row_of}
 use Rattle.book.specs.Plain.{Entry, Plain, scenarios}
 

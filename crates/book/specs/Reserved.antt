@@ -7,7 +7,7 @@ use Rattle.book.specs.declared.found.Found.TheVariants.{At, Beyond}
 use Rattle.book.specs.declared.reserving.Side.{Side}
 use Rattle.book.specs.declared.reserving.Side.TheVariants.{Lower, Upper}
 use Rattle.book.specs.Figures.{mixed_at, told_in}
-use Rattle.book.specs.Laid.{Places}
+use Rattle.book.specs.Places.{Places}
 use Rattle.book.specs.Listed.{shares_of}
 use Rattle.book.specs.Pricing.{reaches}
 

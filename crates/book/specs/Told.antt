@@ -4,7 +4,7 @@ use Rattle.reckoning.specs.declared.grains.Grains.{Grains}
 use Rattle.reckoning.specs.Operations.{Operations}
 use Rattle.book.specs.declared.book.Book.{Book}
 use Rattle.book.specs.Figures.{told_at, told_in, mixed_at}
-use Rattle.book.specs.Laid.{Places}
+use Rattle.book.specs.Places.{Places}
 use Rattle.book.specs.Listed.{shares_of}
 use Rattle.book.specs.Merging.{row_of}
 

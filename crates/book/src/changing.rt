@@ -1,17 +1,18 @@
 // Striking a contract, and giving one other rates.
 ghost use Rattle.std.specs.Prelude.{◌≡◌, length, None, OnErr};
-ghost use Rattle.book.specs.Declines.{handed, strike_sentences, rerate_sentences};
+ghost use Rattle.book.specs.Declines.{strike_sentences, rerate_sentences};
 ghost use Rattle.book.specs.Fitting.{Fits};
-ghost use Rattle.book.specs.Laid.{places_of, state, Outside, Holds};
+ghost use Rattle.book.specs.Laid.{state, Outside, Holds};
 ghost use Rattle.book.specs.Listed.{listed};
 ghost use Rattle.book.specs.Plain.{scenarios, without, re_rated, with_entries};
 ghost use Rattle.book.specs.Rebuilt.{RebuiltOver};
 ghost use Rattle.book.specs.Refusals.{first, refusal_of};
+ghost use Rattle.book.specs.Places.{handed_of, held, SamePlaces};
 
 use crate::book::Book;
 use crate::entering::read_rates;
+use crate::places::Lent;
 use crate::refusal::Refusal;
-use reckoning::grains::Grains;
 use reckoning::reckoning::Reckoning;
 
 // What an accepted strike answers.
@@ -27,26 +28,25 @@ impl Book {
     pub fn strike<R: Reckoning>(
         &mut self,
         key: u32,
-        levels: &mut [u32],
-        bounds: &mut [Grains],
-        values: &mut [R::Value],
+        places: &mut Lent<'_, R::Value>,
     ) -> Result<Struck, Refusal>
-        ensures declines { refusal_of result ≡ first (strike_sentences (handed (length levels.old) (length bounds.old) (length values.old)) (listed self.old) key) }
+        ensures declines { refusal_of result ≡ first (strike_sentences (handed_of (held places.old)) (listed self.old) key) }
         ensures list { refusal_of result ≡ None → listed self.new ≡ with_entries (listed self.old) (without key (listed self.old).contracts) }
-        ensures holds { Holds R.Reckoning.operations self.old (places_of levels.old bounds.old values.old) → refusal_of result ≡ None → Holds R.Reckoning.operations self.new (places_of levels.new bounds.new values.new) }
-        ensures fits { refusal_of result ≡ None → Fits (listed self.new) → Holds R.Reckoning.operations self.new (places_of levels.new bounds.new values.new) }
-        ensures over { refusal_of result ≡ None → RebuiltOver R.Reckoning.operations (listed self.new) self.new.kept (places_of levels.old bounds.old values.old) (places_of levels.new bounds.new values.new) }
-        ensures keeps { refusal_of result ≡ None → Outside (scenarios (listed self.old)) (length levels.old) self.new.kept (places_of levels.old bounds.old values.old) (places_of levels.new bounds.new values.new) }
-        ensures unchanged { OnErr result (state self.new levels.new bounds.new values.new ≡ state self.old levels.old bounds.old values.old) }
+        ensures holds { Holds R.Reckoning.operations self.old (held places.old) → refusal_of result ≡ None → Holds R.Reckoning.operations self.new (held places.new) }
+        ensures fits { refusal_of result ≡ None → Fits (listed self.new) → Holds R.Reckoning.operations self.new (held places.new) }
+        ensures over { refusal_of result ≡ None → RebuiltOver R.Reckoning.operations (listed self.new) self.new.kept (held places.old) (held places.new) }
+        ensures keeps { refusal_of result ≡ None → Outside (scenarios (listed self.old)) (length places.old.levels.now) self.new.kept (held places.old) (held places.new) }
+        ensures lent { SamePlaces places.old places.new }
+        ensures unchanged { OnErr result (state self.new (held places.new) ≡ state self.old (held places.old)) }
     {
-        if self.are_places_wrong(levels.len(), bounds.len(), values.len()) {
+        if self.are_places_wrong(places.handed()) {
             return Err(Refusal::Places);
         }
         let Some(place) = self.find(key) else {
             return Err(Refusal::Absent);
         };
         let _ = self.contracts.remove(place);
-        self.rebuild::<R>(levels, bounds, values);
+        self.rebuild::<R>(places);
         Ok(Struck)
     }
 
@@ -55,19 +55,18 @@ impl Book {
         &mut self,
         key: u32,
         rates: &[u32],
-        levels: &mut [u32],
-        bounds: &mut [Grains],
-        values: &mut [R::Value],
+        places: &mut Lent<'_, R::Value>,
     ) -> Result<Rerated, Refusal>
-        ensures declines { refusal_of result ≡ first (rerate_sentences (handed (length levels.old) (length bounds.old) (length values.old)) (listed self.old) key rates.now) }
+        ensures declines { refusal_of result ≡ first (rerate_sentences (handed_of (held places.old)) (listed self.old) key rates.now) }
         ensures list { refusal_of result ≡ None → listed self.new ≡ with_entries (listed self.old) (re_rated key rates.now (listed self.old).contracts) }
-        ensures holds { Holds R.Reckoning.operations self.old (places_of levels.old bounds.old values.old) → refusal_of result ≡ None → Holds R.Reckoning.operations self.new (places_of levels.new bounds.new values.new) }
-        ensures fits { refusal_of result ≡ None → Fits (listed self.new) → Holds R.Reckoning.operations self.new (places_of levels.new bounds.new values.new) }
-        ensures over { refusal_of result ≡ None → RebuiltOver R.Reckoning.operations (listed self.new) self.new.kept (places_of levels.old bounds.old values.old) (places_of levels.new bounds.new values.new) }
-        ensures keeps { refusal_of result ≡ None → Outside (scenarios (listed self.old)) (length levels.old) self.new.kept (places_of levels.old bounds.old values.old) (places_of levels.new bounds.new values.new) }
-        ensures unchanged { OnErr result (state self.new levels.new bounds.new values.new ≡ state self.old levels.old bounds.old values.old) }
+        ensures holds { Holds R.Reckoning.operations self.old (held places.old) → refusal_of result ≡ None → Holds R.Reckoning.operations self.new (held places.new) }
+        ensures fits { refusal_of result ≡ None → Fits (listed self.new) → Holds R.Reckoning.operations self.new (held places.new) }
+        ensures over { refusal_of result ≡ None → RebuiltOver R.Reckoning.operations (listed self.new) self.new.kept (held places.old) (held places.new) }
+        ensures keeps { refusal_of result ≡ None → Outside (scenarios (listed self.old)) (length places.old.levels.now) self.new.kept (held places.old) (held places.new) }
+        ensures lent { SamePlaces places.old places.new }
+        ensures unchanged { OnErr result (state self.new (held places.new) ≡ state self.old (held places.old)) }
     {
-        if self.are_places_wrong(levels.len(), bounds.len(), values.len()) {
+        if self.are_places_wrong(places.handed()) {
             return Err(Refusal::Places);
         }
         let Some(rates) = read_rates(rates, self.shares.count) else {
@@ -77,7 +76,7 @@ impl Book {
             return Err(Refusal::Absent);
         };
         self.contracts[place].rates = rates;
-        self.rebuild::<R>(levels, bounds, values);
+        self.rebuild::<R>(places);
         Ok(Rerated)
     }
 }

@@ -2,21 +2,23 @@
 ghost use Rattle.std.specs.Prelude.{◌≡◌, ℕ, ◌<◌, ◌≤◌, true, false, ◌⊎◌, List, length, take, IfSome, IfOk, Some, None, vec_len, OnErr, nat_le};
 ghost use Rattle.std.specs.Option as Options;
 ghost use Rattle.book.specs.Anyhow.{EntersOver};
-ghost use Rattle.book.specs.Declines.{handed, places_wrong, rates_wrong, enter_early, enter_sentences};
+ghost use Rattle.book.specs.Declines.{places_wrong, rates_wrong, enter_early, enter_sentences};
 ghost use Rattle.book.specs.Finding.{place_of};
-ghost use Rattle.book.specs.Laid.{places_of, state, Outside, Room, Holds, Framed, AnswersAsListed};
+ghost use Rattle.book.specs.Laid.{state, Outside, Room, Holds, Framed, AnswersAsListed};
 ghost use Rattle.book.specs.Entries.{millionths_of, entry_of};
 ghost use Rattle.book.specs.Listed.{listed};
 ghost use Rattle.book.specs.Plain.{size, scenarios, same_key, holds_key, entry, with_entry};
 ghost use Rattle.book.specs.Refusals.{first, refusal_of, FreeOf};
+ghost use Rattle.book.specs.Places.{handed_of, held, SamePlaces};
 
 use crate::book::Book;
 use crate::contract::Contract;
 use crate::frame::Frame;
 use crate::laying::extend;
 use crate::opening::places_short;
+use crate::places::Lent;
 use crate::refusal::Refusal;
-use reckoning::grains::Grains;
+use crate::shown::Handed;
 use reckoning::loss::Loss;
 use reckoning::rate::Rate;
 use reckoning::reckoning::Reckoning;
@@ -72,11 +74,11 @@ impl Book {
     }
 
     // Whether the places do not fit the book.
-    pub(crate) fn are_places_wrong(&self, levels: usize, bounds: usize, values: usize) -> bool
-        ensures value { result ≡ places_wrong (handed levels bounds values) (listed self.now) }
-        ensures room { result ≡ false → Room self.now levels bounds values }
+    pub(crate) fn are_places_wrong(&self, handed: Handed) -> bool
+        ensures value { result ≡ places_wrong handed (listed self.now) }
+        ensures room { result ≡ false → Room self.now handed }
     {
-        places_short(levels, bounds, values, self.shares.count) || levels != self.places
+        places_short(handed, self.shares.count) || handed.levels != self.places
     }
 
     pub(crate) fn frame(&self) -> Frame
@@ -103,19 +105,11 @@ impl Book {
     }
 
     // The contract to enter, or why none may be entered whatever the places hold.
-    fn admit(
-        &self,
-        key: u32,
-        loss: u32,
-        rates: &[u32],
-        levels: usize,
-        bounds: usize,
-        values: usize,
-    ) -> Result<Contract, Refusal>
-        ensures declines { refusal_of result ≡ first (enter_early (handed levels bounds values) (listed self.now) key loss rates.now) }
-        ensures admitted { IfOk result (λ c. (entry_of self.now.shares.count c ≡ entry key loss rates.now) × (places_wrong (handed levels bounds values) (listed self.now) ≡ false) × (vec_len self.now.contracts < 256) × (holds_key key (listed self.now).contracts ≡ false)) }
+    fn admit(&self, key: u32, loss: u32, rates: &[u32], handed: Handed) -> Result<Contract, Refusal>
+        ensures declines { refusal_of result ≡ first (enter_early handed (listed self.now) key loss rates.now) }
+        ensures admitted { IfOk result (λ c. (entry_of self.now.shares.count c ≡ entry key loss rates.now) × (places_wrong handed (listed self.now) ≡ false) × (vec_len self.now.contracts < 256) × (holds_key key (listed self.now).contracts ≡ false)) }
     {
-        if self.are_places_wrong(levels, bounds, values) {
+        if self.are_places_wrong(handed) {
             return Err(Refusal::Places);
         }
         let Some(loss) = Loss::new(loss) else {
@@ -139,29 +133,24 @@ impl Book {
         key: u32,
         loss: u32,
         rates: &[u32],
-        levels: &mut [u32],
-        bounds: &mut [Grains],
-        values: &mut [R::Value],
+        places: &mut Lent<'_, R::Value>,
     ) -> Result<Entered, Refusal>
-        ensures declines { FreeOf 13 (first (enter_early (handed (length levels.old) (length bounds.old) (length values.old)) (listed self.old) key loss rates.now)) (refusal_of result) }
+        ensures declines { FreeOf 13 (first (enter_early (handed_of (held places.old)) (listed self.old) key loss rates.now)) (refusal_of result) }
         ensures list { refusal_of result ≡ None → listed self.new ≡ with_entry (listed self.old) (entry key loss rates.now) }
-        ensures holds { Holds R.Reckoning.operations self.old (places_of levels.old bounds.old values.old) → AnswersAsListed (enter_sentences (handed (length levels.old) (length bounds.old) (length values.old)) (listed self.old) key loss rates.now) (refusal_of result) (Holds R.Reckoning.operations self.new (places_of levels.new bounds.new values.new)) }
-        ensures over { EntersOver R.Reckoning.operations self.old self.new loss rates.now (first (enter_early (handed (length levels.old) (length bounds.old) (length values.old)) (listed self.old) key loss rates.now)) (refusal_of result) (places_of levels.old bounds.old values.old) (places_of levels.new bounds.new values.new) }
-        ensures keeps { refusal_of result ≡ None → Outside (scenarios (listed self.old)) (length levels.old) self.new.kept (places_of levels.old bounds.old values.old) (places_of levels.new bounds.new values.new) }
-        ensures unchanged { OnErr result (state self.new levels.new bounds.new values.new ≡ state self.old levels.old bounds.old values.old) }
+        ensures holds { Holds R.Reckoning.operations self.old (held places.old) → AnswersAsListed (enter_sentences (handed_of (held places.old)) (listed self.old) key loss rates.now) (refusal_of result) (Holds R.Reckoning.operations self.new (held places.new)) }
+        ensures over { EntersOver R.Reckoning.operations self.old self.new loss rates.now (first (enter_early (handed_of (held places.old)) (listed self.old) key loss rates.now)) (refusal_of result) (held places.old) (held places.new) }
+        ensures keeps { refusal_of result ≡ None → Outside (scenarios (listed self.old)) (length places.old.levels.now) self.new.kept (held places.old) (held places.new) }
+        ensures lent { SamePlaces places.old places.new }
+        ensures unchanged { OnErr result (state self.new (held places.new) ≡ state self.old (held places.old)) }
     {
-        let contract = match self.admit(
-            key,
-            loss,
-            rates,
-            levels.len(),
-            bounds.len(),
-            values.len(),
-        ) {
-            Ok(contract) => contract,
-            Err(refusal) => return Err(refusal),
-        };
-        let Some(kept) = extend::<R>(self.frame(), &contract, levels, bounds, values) else {
+        let contract = self.admit(key, loss, rates, places.handed())?;
+        let Some(kept) = extend::<R>(
+            self.frame(),
+            &contract,
+            places.levels,
+            places.bounds,
+            places.values,
+        ) else {
             return Err(Refusal::Levels);
         };
         self.contracts.push_reserved(contract);

@@ -1,15 +1,17 @@
 // Pricing a layer: what the mix leaves of certainty, summed over the layer's levels.
 ghost use Rattle.std.specs.Prelude.{◌≡◌, ℕ, ◌+◌, ◌-◌, ◌*◌, ◌<◌, ◌≤◌, length, IfOk};
 ghost use Rattle.reckoning.specs.Enclosing as Enclosing;
-ghost use Rattle.book.specs.Declines.{handed, layer_sentences};
-ghost use Rattle.book.specs.Laid.{places_of, LevelsHold, RowsHold, Holds};
+ghost use Rattle.book.specs.Declines.{layer_sentences};
+ghost use Rattle.book.specs.Laid.{LevelsHold, RowsHold, Holds};
 ghost use Rattle.book.specs.Layered.{stretch_end, layer_over};
 ghost use Rattle.book.specs.Listed.{listed};
 ghost use Rattle.book.specs.Pricing.{layer_low, layer_high};
 ghost use Rattle.book.specs.Refusals.{first, refusal_of};
+ghost use Rattle.book.specs.Places.{handed_of, shown};
 
 use crate::book::Book;
 use crate::refusal::Refusal;
+use crate::shown::Shown;
 use reckoning::grains::Grains;
 use reckoning::reckoning::Reckoning;
 
@@ -49,21 +51,19 @@ impl Book {
         &self,
         from: u32,
         to: u32,
-        levels: &[u32],
-        bounds: &[Grains],
-        values: &[R::Value],
+        places: &Shown<'_, R::Value>,
     ) -> Result<(u64, u64), Refusal>
-        ensures declines { refusal_of result ≡ first (layer_sentences (handed (length levels.now) (length bounds.now) (length values.now)) (listed self.now) from to) }
+        ensures declines { refusal_of result ≡ first (layer_sentences (handed_of (shown places.now)) (listed self.now) from to) }
         ensures range { IfOk result (λ t. (t.0 ≤ t.1) × (t.1 ≤ (to - from) * 1000000000000)) }
-        ensures told { IfOk result (λ t. (t.0 ≡ layer_over (λ g. g.upper) self.now levels.now bounds.now from to) × (t.1 ≡ layer_over (λ g. g.lower) self.now levels.now bounds.now from to)) }
-        ensures tells { Holds R.Reckoning.operations self.now (places_of levels.now bounds.now values.now) → IfOk result (λ t. (t.0 ≡ layer_low (listed self.now) from to) × (t.1 ≡ layer_high (listed self.now) from to)) }
+        ensures told { IfOk result (λ t. (t.0 ≡ layer_over (λ g. g.upper) self.now places.now.levels.now places.now.bounds.now from to) × (t.1 ≡ layer_over (λ g. g.lower) self.now places.now.levels.now places.now.bounds.now from to)) }
+        ensures tells { Holds R.Reckoning.operations self.now (shown places.now) → IfOk result (λ t. (t.0 ≡ layer_low (listed self.now) from to) × (t.1 ≡ layer_high (listed self.now) from to)) }
     {
-        if self.are_places_wrong(levels.len(), bounds.len(), values.len()) {
+        if self.are_places_wrong(places.handed()) {
             return Err(Refusal::Places);
         }
         if from >= to || to > self.ceiling + 1 {
             return Err(Refusal::Range);
         }
-        Ok(self.layer_sums(from, to, levels, bounds))
+        Ok(self.layer_sums(from, to, places.levels, places.bounds))
     }
 }

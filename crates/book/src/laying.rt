@@ -1,9 +1,11 @@
 // Laying a book out in its places: the book without contracts, and one contract more.
+// The places are taken apart here: levels are read while values are written.
 ghost use Rattle.std.specs.Prelude.{◌≡◌, ℕ, ◌+◌, ◌*◌, ◌<◌, ◌≤◌, List, [], ◌∷◌, length, drop, IfSome, MatchOption, slice_set};
 ghost use Rattle.book.specs.Anyhow.{ExtendsOver};
 ghost use Rattle.book.specs.Merging.{row_of};
-ghost use Rattle.book.specs.Laid.{places_of, Outside, Lays, Framed, Extends};
+ghost use Rattle.book.specs.Laid.{Outside, Lays, Framed, Extends};
 ghost use Rattle.book.specs.Entries.{entry_of};
+ghost use Rattle.book.specs.Places.{places_of};
 ghost use Rattle.book.specs.Plain.{Plain, opened};
 ghost use Rattle.book.specs.Rebuilt.{Begun};
 

@@ -1,17 +1,19 @@
 // Making and opening a book.
 ghost use Rattle.std.specs.Prelude.{◌≡◌, ◌*◌, ◌≤◌, true, [], ◌∷◌, length, take, IfOk, None, MatchOption, OnErr};
 ghost use Rattle.reckoning.specs.Outcomes.{summed};
-ghost use Rattle.book.specs.Declines.{handed, short, shares_wrong, open_sentences};
-ghost use Rattle.book.specs.Laid.{places_of, state, Outside, Holds};
+ghost use Rattle.book.specs.Declines.{short, shares_wrong, open_sentences};
+ghost use Rattle.book.specs.Laid.{state, Outside, Holds};
 ghost use Rattle.book.specs.Listed.{shares_of, listed};
 ghost use Rattle.book.specs.Plain.{unopened, opened};
 ghost use Rattle.book.specs.Refusals.{first, refusal_of};
+ghost use Rattle.book.specs.Places.{handed_of, held, SamePlaces};
 
 use crate::book::Book;
 use crate::laying::begin;
+use crate::places::Lent;
 use crate::refusal::Refusal;
 use crate::shares::Shares;
-use reckoning::grains::Grains;
+use crate::shown::Handed;
 use reckoning::reckoning::Reckoning;
 use std::alloc::{AllocError, Global};
 
@@ -84,15 +86,14 @@ impl Book {
         &mut self,
         ceiling: u32,
         shares: &[u32],
-        levels: &mut [u32],
-        bounds: &mut [Grains],
-        values: &mut [R::Value],
+        places: &mut Lent<'_, R::Value>,
     ) -> Result<Opened, Refusal>
-        ensures declines { refusal_of result ≡ first (open_sentences (handed (length levels.old) (length bounds.old) (length values.old)) ceiling shares.now) }
-        ensures list { refusal_of result ≡ None → listed self.new ≡ opened (length levels.old) ceiling shares.now }
-        ensures holds { refusal_of result ≡ None → Holds R.Reckoning.operations self.new (places_of levels.new bounds.new values.new) }
-        ensures keeps { refusal_of result ≡ None → Outside (length shares.now) (length levels.old) 1 (places_of levels.old bounds.old values.old) (places_of levels.new bounds.new values.new) }
-        ensures unchanged { OnErr result (state self.new levels.new bounds.new values.new ≡ state self.old levels.old bounds.old values.old) }
+        ensures declines { refusal_of result ≡ first (open_sentences (handed_of (held places.old)) ceiling shares.now) }
+        ensures list { refusal_of result ≡ None → listed self.new ≡ opened (length places.old.levels.now) ceiling shares.now }
+        ensures holds { refusal_of result ≡ None → Holds R.Reckoning.operations self.new (held places.new) }
+        ensures keeps { refusal_of result ≡ None → Outside (length shares.now) (length places.old.levels.now) 1 (held places.old) (held places.new) }
+        ensures lent { SamePlaces places.old places.new }
+        ensures unchanged { OnErr result (state self.new (held places.new) ≡ state self.old (held places.old)) }
     {
         if ceiling < 1 || ceiling > 65_535 {
             return Err(Refusal::Ceiling);
@@ -101,27 +102,27 @@ impl Book {
             return Err(Refusal::Shares);
         };
         let scenarios = shares.count;
-        if places_short(levels.len(), bounds.len(), values.len(), scenarios) {
+        if places_short(places.handed(), scenarios) {
             return Err(Refusal::Places);
         }
-        begin::<R>(scenarios, levels, bounds, values);
+        begin::<R>(scenarios, places.levels, places.bounds, places.values);
         self.contracts.clear();
         self.shares = shares;
         self.ceiling = ceiling;
-        self.places = levels.len();
+        self.places = places.levels.len();
         self.kept = 1;
         Ok(Opened)
     }
 }
 
 // Whether the places are too few or too many for that many scenarios.
-pub(crate) fn places_short(levels: usize, bounds: usize, values: usize, scenarios: usize) -> bool
+pub(crate) fn places_short(handed: Handed, scenarios: usize) -> bool
     requires { scenarios ≤ 8 }
-    ensures { result ≡ short (handed levels bounds values) scenarios }
+    ensures { result ≡ short handed scenarios }
 {
-    if levels < 1 || levels > 65_536 {
+    if handed.levels < 1 || handed.levels > 65_536 {
         return true;
     }
-    let most = levels * scenarios;
-    bounds < most || values < most
+    let most = handed.levels * scenarios;
+    handed.bounds < most || handed.values < most
 }

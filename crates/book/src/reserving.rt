@@ -1,18 +1,20 @@
 // The reserve for a confidence.
 ghost use Rattle.std.specs.Prelude.{◌≡◌, ◌*◌, ◌≤◌, length, IfOk, nat_le};
 ghost use Rattle.reckoning.specs.Enclosing as Enclosing;
-ghost use Rattle.book.specs.Declines.{handed, reserve_sentences};
+ghost use Rattle.book.specs.Declines.{reserve_sentences};
 ghost use Rattle.book.specs.Figures as Figures;
-ghost use Rattle.book.specs.Laid.{places_of, LevelsHold, RowsHold, Holds};
+ghost use Rattle.book.specs.Laid.{LevelsHold, RowsHold, Holds};
 ghost use Rattle.book.specs.Least.{least};
 ghost use Rattle.book.specs.Listed.{listed};
 ghost use Rattle.book.specs.Pricing.{reserve_low, reserve_high};
 ghost use Rattle.book.specs.Refusals.{first, refusal_of};
 ghost use Rattle.book.specs.Reserved.{count_of, mix_beside, Among, FirstOf, FirstReached};
+ghost use Rattle.book.specs.Places.{handed_of, shown};
 
 use crate::book::Book;
 use crate::found::Found;
 use crate::refusal::Refusal;
+use crate::shown::Shown;
 use reckoning::grains::Grains;
 use reckoning::reckoning::Reckoning;
 
@@ -59,24 +61,22 @@ impl Book {
     pub fn reserve<R: Reckoning>(
         &self,
         confidence: u32,
-        levels: &[u32],
-        bounds: &[Grains],
-        values: &[R::Value],
+        places: &Shown<'_, R::Value>,
     ) -> Result<(Found, Found), Refusal>
-        ensures declines { refusal_of result ≡ first (reserve_sentences (handed (length levels.now) (length bounds.now) (length values.now)) (listed self.now) confidence) }
-        ensures range { IfOk result (λ t. Among levels.now self.now.kept t.0 × Among levels.now self.now.kept t.1) }
-        ensures told { IfOk result (λ t. FirstReached (λ g. g.upper) confidence self.now (places_of levels.now bounds.now values.now) t.0 × FirstReached (λ g. g.lower) confidence self.now (places_of levels.now bounds.now values.now) t.1) }
-        ensures tells { Holds R.Reckoning.operations self.now (places_of levels.now bounds.now values.now) → IfOk result (λ t. (t.0 ≡ reserve_low (listed self.now) confidence) × (t.1 ≡ reserve_high (listed self.now) confidence)) }
+        ensures declines { refusal_of result ≡ first (reserve_sentences (handed_of (shown places.now)) (listed self.now) confidence) }
+        ensures range { IfOk result (λ t. Among places.now.levels.now self.now.kept t.0 × Among places.now.levels.now self.now.kept t.1) }
+        ensures told { IfOk result (λ t. FirstReached (λ g. g.upper) confidence self.now (shown places.now) t.0 × FirstReached (λ g. g.lower) confidence self.now (shown places.now) t.1) }
+        ensures tells { Holds R.Reckoning.operations self.now (shown places.now) → IfOk result (λ t. (t.0 ≡ reserve_low (listed self.now) confidence) × (t.1 ≡ reserve_high (listed self.now) confidence)) }
     {
-        if self.are_places_wrong(levels.len(), bounds.len(), values.len()) {
+        if self.are_places_wrong(places.handed()) {
             return Err(Refusal::Places);
         }
         if confidence < 1 || confidence > 1_000_000 {
             return Err(Refusal::Confidence);
         }
         let enough = u64::from(confidence) * 1_000_000;
-        let low = self.first_reached(Side::Upper, enough, levels, bounds);
-        let high = self.first_reached(Side::Lower, enough, levels, bounds);
+        let low = self.first_reached(Side::Upper, enough, places.levels, places.bounds);
+        let high = self.first_reached(Side::Lower, enough, places.levels, places.bounds);
         Ok((low, high))
     }
 }

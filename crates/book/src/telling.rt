@@ -4,10 +4,10 @@ ghost use Rattle.reckoning.specs.Enclosing as Enclosing;
 ghost use Rattle.reckoning.specs.Enclosing.{Ranged, checked};
 ghost use Rattle.reckoning.specs.Outcomes.{summed};
 ghost use Rattle.reckoning.specs.Rounding.{pair};
-ghost use Rattle.book.specs.Declines.{handed, value_late, value_sentences, chance_sentences};
+ghost use Rattle.book.specs.Declines.{value_late, value_sentences, chance_sentences};
 ghost use Rattle.book.specs.Figures as Figures;
 ghost use Rattle.book.specs.Figures.{mixed, mixed_at, told_at, told_in};
-ghost use Rattle.book.specs.Laid.{places_of, LevelsHold, RowsHold, Holds};
+ghost use Rattle.book.specs.Laid.{LevelsHold, RowsHold, Holds};
 ghost use Rattle.book.specs.Levels.{kept};
 ghost use Rattle.book.specs.Listed.{shares_of, listed};
 ghost use Rattle.book.specs.Merging.{row_of};
@@ -15,11 +15,13 @@ ghost use Rattle.book.specs.Plain.{losses};
 ghost use Rattle.book.specs.Refusals.{first, refusal_of};
 ghost use Rattle.book.specs.Told.{row_told, value_of, bounds_of, chance_of};
 ghost use Rattle.book.specs.Values as Values;
+ghost use Rattle.book.specs.Places.{handed_of, shown};
 
 use crate::book::Book;
 use crate::merging::below;
 use crate::refusal::Refusal;
 use crate::shares::Shares;
+use crate::shown::Shown;
 use reckoning::bounds::Bounds;
 use reckoning::grains::Grains;
 use reckoning::reckoning::Reckoning;
@@ -105,19 +107,17 @@ impl Book {
         &self,
         scenario: u32,
         level: u32,
-        levels: &[u32],
-        bounds: &[Grains],
-        values: &[R::Value],
+        places: &Shown<'_, R::Value>,
     ) -> Result<R::Value, Refusal>
-        ensures declines { refusal_of result ≡ first (value_sentences (handed (length levels.now) (length bounds.now) (length values.now)) (listed self.now) scenario level) }
+        ensures declines { refusal_of result ≡ first (value_sentences (handed_of (shown places.now)) (listed self.now) scenario level) }
         ensures range { IfOk result R.Reckoning.ranged }
-        ensures told { IfOk result (λ v. v ≡ value_of R.Reckoning.reading R.Reckoning.operations self.now (places_of levels.now bounds.now values.now) scenario level) }
-        ensures tells { Holds R.Reckoning.operations self.now (places_of levels.now bounds.now values.now) → IfOk result (λ v. v ≡ Values.value R.Reckoning.operations (listed self.now) scenario level) }
+        ensures told { IfOk result (λ v. v ≡ value_of R.Reckoning.reading R.Reckoning.operations self.now (shown places.now) scenario level) }
+        ensures tells { Holds R.Reckoning.operations self.now (shown places.now) → IfOk result (λ v. v ≡ Values.value R.Reckoning.operations (listed self.now) scenario level) }
     {
-        if self.are_places_wrong(levels.len(), bounds.len(), values.len()) {
+        if self.are_places_wrong(places.handed()) {
             return Err(Refusal::Places);
         }
-        self.row_value::<R>(scenario, level, levels, values)
+        self.row_value::<R>(scenario, level, places.levels, places.values)
     }
 
     // The bounds in a scenario at a level.
@@ -125,19 +125,17 @@ impl Book {
         &self,
         scenario: u32,
         level: u32,
-        levels: &[u32],
-        bounds: &[Grains],
-        values: &[R::Value],
+        places: &Shown<'_, R::Value>,
     ) -> Result<Grains, Refusal>
-        ensures declines { refusal_of result ≡ first (value_sentences (handed (length levels.now) (length bounds.now) (length values.now)) (listed self.now) scenario level) }
+        ensures declines { refusal_of result ≡ first (value_sentences (handed_of (shown places.now)) (listed self.now) scenario level) }
         ensures range { IfOk result Ranged }
-        ensures told { IfOk result (λ v. v ≡ bounds_of self.now (places_of levels.now bounds.now values.now) scenario level) }
-        ensures tells { Holds R.Reckoning.operations self.now (places_of levels.now bounds.now values.now) → IfOk result (λ v. v ≡ Values.value Enclosing.bounds (listed self.now) scenario level) }
+        ensures told { IfOk result (λ v. v ≡ bounds_of self.now (shown places.now) scenario level) }
+        ensures tells { Holds R.Reckoning.operations self.now (shown places.now) → IfOk result (λ v. v ≡ Values.value Enclosing.bounds (listed self.now) scenario level) }
     {
-        if self.are_places_wrong(levels.len(), bounds.len(), values.len()) {
+        if self.are_places_wrong(places.handed()) {
             return Err(Refusal::Places);
         }
-        self.row_value::<Bounds>(scenario, level, levels, bounds)
+        self.row_value::<Bounds>(scenario, level, places.levels, places.bounds)
     }
 
     // The bounds of a scenario, or for 0 of the mix, where `found` of the levels are not above the level asked for.
@@ -158,16 +156,14 @@ impl Book {
         &self,
         scenario: u32,
         level: u32,
-        levels: &[u32],
-        bounds: &[Grains],
-        values: &[R::Value],
+        places: &Shown<'_, R::Value>,
     ) -> Result<(u64, u64), Refusal>
-        ensures declines { refusal_of result ≡ first (chance_sentences (handed (length levels.now) (length bounds.now) (length values.now)) (listed self.now) scenario level) }
+        ensures declines { refusal_of result ≡ first (chance_sentences (handed_of (shown places.now)) (listed self.now) scenario level) }
         ensures range { IfOk result (λ t. Ranged (pair t.0 t.1)) }
-        ensures told { IfOk result (λ t. pair t.0 t.1 ≡ chance_of self.now (places_of levels.now bounds.now values.now) scenario level) }
-        ensures tells { Holds R.Reckoning.operations self.now (places_of levels.now bounds.now values.now) → IfOk result (λ t. pair t.0 t.1 ≡ Figures.chance (listed self.now) scenario level) }
+        ensures told { IfOk result (λ t. pair t.0 t.1 ≡ chance_of self.now (shown places.now) scenario level) }
+        ensures tells { Holds R.Reckoning.operations self.now (shown places.now) → IfOk result (λ t. pair t.0 t.1 ≡ Figures.chance (listed self.now) scenario level) }
     {
-        if self.are_places_wrong(levels.len(), bounds.len(), values.len()) {
+        if self.are_places_wrong(places.handed()) {
             return Err(Refusal::Places);
         }
         let scenario = scenario as usize;
@@ -177,8 +173,8 @@ impl Book {
         if level > self.ceiling {
             return Err(Refusal::Level);
         }
-        let found = below(levels, self.kept, level + 1);
-        let told = self.chance_at(scenario, found, bounds);
+        let found = below(places.levels, self.kept, level + 1);
+        let told = self.chance_at(scenario, found, places.bounds);
         Ok((told.lower, told.upper))
     }
 }

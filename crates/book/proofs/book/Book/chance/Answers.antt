@@ -12,8 +12,8 @@ returns g c =
     let b = c.args.self.now in
     let s = c.args.scenario in
     let k = c.args.level in
-    let levels = c.args.levels.now in
-    let rows = c.args.bounds.now in
+    let levels = c.args.places.now.levels.now in
+    let rows = c.args.places.now.bounds.now in
     record {
       declines = search rules;
       range = c.chance_at-told.ensures.range;

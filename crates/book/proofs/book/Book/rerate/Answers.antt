@@ -19,6 +19,7 @@ returns-in_default-find g c =
       fits = search rules;
       over = search rules;
       keeps = search rules;
+      lent = search rules;
       unchanged = search rules;
     }
 
@@ -39,10 +40,11 @@ returns g c =
       declines = search rules;
       list = λ _. final;
       holds = λ held _.
-          c.rebuild.ensures.holds (subst Fits (sym final ∙ c.rebuild.ensures.list) (rerated_fits p k rs (held_fits p b.kept c.args.levels.now held.levels b.inside)));
+          c.rebuild.ensures.holds (subst Fits (sym final ∙ c.rebuild.ensures.list) (rerated_fits p k rs (held_fits p b.kept c.args.places.now.levels.now held.levels b.inside)));
       fits = λ _ fits. c.rebuild.ensures.holds (subst Fits c.rebuild.ensures.list fits);
       over = λ _. c.rebuild.ensures.over;
       keeps = λ _. c.rebuild.ensures.keeps;
+      lent = c.rebuild.ensures.lent;
       unchanged = tt;
     }
 

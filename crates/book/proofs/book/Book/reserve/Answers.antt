@@ -10,8 +10,8 @@ pub returns : goal.returns
 returns g c =
     let b = c.args.self.now in
     let p = listed b in
-    let levels = c.args.levels.now in
-    let rows = c.args.bounds.now in
+    let levels = c.args.places.now.levels.now in
+    let rows = c.args.places.now.bounds.now in
     let low = c.first_reached-low.result in
     let high = c.first_reached-high.result in
     let enough = c.from-enough.ensures in

@@ -18,6 +18,7 @@ returns-in_default g c =
       fits = search rules;
       over = search rules;
       keeps = search rules;
+      lent = search rules;
       unchanged = search rules;
     }
 
@@ -34,10 +35,11 @@ returns g c =
       declines = search rules;
       list = λ _. c.rebuild.ensures.list ∙ ap (with_entries p) are;
       holds = λ held _.
-          c.rebuild.ensures.holds (subst (λ (es : List Entry). Fits (with_entries p es)) (sym are) (struck_fits p k (held_fits p b.kept c.args.levels.now held.levels b.inside)));
+          c.rebuild.ensures.holds (subst (λ (es : List Entry). Fits (with_entries p es)) (sym are) (struck_fits p k (held_fits p b.kept c.args.places.now.levels.now held.levels b.inside)));
       fits = λ _ fits. c.rebuild.ensures.holds (subst Fits c.rebuild.ensures.list fits);
       over = λ _. c.rebuild.ensures.over;
       keeps = λ _. c.rebuild.ensures.keeps;
+      lent = c.rebuild.ensures.lent;
       unchanged = tt;
     }
 
