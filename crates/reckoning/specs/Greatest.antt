@@ -1,8 +1,8 @@
 -- The laws of Claims.
 use Rattle.std.specs.Prelude.{◌≡◌, ℕ, suc, ◌-◌, ◌*◌, ◌<◌, ◌≤◌, Bool, true, false, cond, List, [], ◌∷◌, ◌++◌, length, Some, None, Option, ◌==◌, nat_lt, refl}
-use Rattle.std.proofs.Common.{sym, ap, ◌∙◌, mul-pos, arith}
-use Rattle.std.proofs.Math.Nat.{lt_of_mul-lt-mul_left}
-use Rattle.std.proofs.lemmas.Bool.{le-ltb, ltb-true, eqb-true, eqb-false, cond_both}
+use Rattle.std.proofs.Common.{sym, ap, ◌∙◌, ⊎_elim, mul-pos, arith}
+use Rattle.std.proofs.Math.Nat.{max-eq_left, max-eq_right, lt_of_mul-lt-mul_left}
+use Rattle.std.proofs.lemmas.Bool.{cases_lt, le-ltb, ltb-true, eqb-true, eqb-false, cond_both}
 use Rattle.std.proofs.lemmas.Bool.Decides.{nat_tests}
 use Rattle.reckoning.specs.Outcomes.{Outcome, Family, odds, weight, extended, either}
 use Rattle.reckoning.specs.Counting.{claims, greater, greatest, Ranged, checked, one_more, blended, Stands}
@@ -10,6 +10,13 @@ use Rattle.reckoning.specs.Weights.{weight_push}
 
 pub stands_for_whole : Stands (Some 0) [] ([] ∷ [])
 stands_for_whole = record { ranged = omega arith; is = refl }
+
+-- what holds of both holds of the greater
+greater_keeps : (P : Option ℕ → Type 0) (a b : Option ℕ) → P a → P b → P (greater a b)
+greater_keeps P None b p q = q
+greater_keeps P (Some i) None p q = p
+greater_keeps P (Some i) (Some j) p q =
+    ⊎_elim (λ l. rw (max-eq_right {n = i} {m = j} (omega arith)) q) (λ m. rw (max-eq_left {n = i} {m = j} m) p) (cases_lt i j)
 
 greater_assoc : (a b c : Option ℕ) → greater (greater a b) c ≡ greater a (greater b c)
 greater_assoc None b c = refl
@@ -83,15 +90,10 @@ claims_within (r ∷ rs) [] h = omega arith
 claims_within (r ∷ rs) (true ∷ bs) h = omega (arith, claims_within rs bs (factor r (weight rs bs) h))
 claims_within (r ∷ rs) (false ∷ bs) h = omega (arith, claims_within rs bs (factor (1000000 - r) (weight rs bs) h))
 
-greater_within : (n : ℕ) (a b : Option ℕ) → Within n a → Within n b → Within n (greater a b)
-greater_within n None b p q = q
-greater_within n (Some i) None p q = p
-greater_within n (Some i) (Some j) p q = omega arith
-
 greatest_within : (rs : List ℕ) (os : Family) → Within (length rs) (greatest rs os)
 greatest_within rs [] = tt
 greatest_within rs (o ∷ os) =
-    greater_within (length rs) _ _
+    greater_keeps (Within (length rs)) _ _
     (cond_both (nat_lt 0 (weight rs o)) (Some (claims o)) None (Within (length rs)) (λ e. claims_within rs o (ltb-true _ _ e)) (λ _. tt))
     (greatest_within rs os)
 
@@ -103,11 +105,6 @@ one_more_is : (n : ℕ) → n ≤ 255 → (v : Option ℕ) → Within n v → on
 one_more_is n few None h = refl
 one_more_is n few (Some k) h = ap Some (omega arith)
 
-greater_ranged : (a b : Option ℕ) → Ranged a → Ranged b → Ranged (greater a b)
-greater_ranged None b p q = q
-greater_ranged (Some i) None p q = p
-greater_ranged (Some i) (Some j) p q = omega arith
-
 pub checked_ranged : (u : Option ℕ) → Ranged (checked u)
 checked_ranged None = tt
 checked_ranged (Some k) = omega arith
@@ -118,7 +115,7 @@ one_more_ranged (Some k) = omega arith
 
 pub blended_ranged : (r : ℕ) (u v : Option ℕ) → Ranged (blended r u v)
 blended_ranged r u v =
-    greater_ranged _ _
+    greater_keeps Ranged _ _
     (cond_both (r == 1000000) None (checked u) Ranged (λ _. tt) (λ _. checked_ranged u))
     (cond_both (r == 0) None (one_more v) Ranged (λ _. tt) (λ _. one_more_ranged v))
 
