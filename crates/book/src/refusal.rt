@@ -2,35 +2,35 @@
 ghost use Rattle.std.specs.Prelude.{◌≡◌};
 ghost use Rattle.book.specs.Refusals.{number_of};
 
-// The reasons for which a call on the book is declined.
+// The reasons for which a call on the book is declined, each with its number.
 #[derive(Clone, Copy, Debug, PartialEq, Eq)]
 pub enum Refusal {
     // The ceiling is out of range.
-    Ceiling,
+    Ceiling = 5,
     // The scenarios are not 1 to 8, or the shares do not sum to a million.
-    Shares,
+    Shares = 6,
     // The places do not fit the book.
-    Places,
+    Places = 7,
     // The loss is out of range.
-    Loss,
+    Loss = 8,
     // The rates are not one a scenario, or one exceeds a million.
-    Rates,
+    Rates = 9,
     // The key to re-rate or strike is absent.
-    Absent,
+    Absent = 10,
     // The key to enter is present.
-    Present,
+    Present = 11,
     // The book has 256 contracts.
-    Full,
+    Full = 12,
     // More levels would be kept than there are level places.
-    Levels,
+    Levels = 13,
     // The scenario is not in the book.
-    Scenario,
+    Scenario = 14,
     // The level is above the ceiling.
-    Level,
+    Level = 15,
     // The confidence is not 1 to a million millionths.
-    Confidence,
+    Confidence = 16,
     // The layer does not begin below its end, or ends above the ceiling.
-    Range,
+    Range = 17,
 }
 
 impl Refusal {
@@ -38,20 +38,6 @@ impl Refusal {
     pub fn number(self) -> u32
         ensures { result ≡ number_of self }
     {
-        match self {
-            Refusal::Ceiling => 5,
-            Refusal::Shares => 6,
-            Refusal::Places => 7,
-            Refusal::Loss => 8,
-            Refusal::Rates => 9,
-            Refusal::Absent => 10,
-            Refusal::Present => 11,
-            Refusal::Full => 12,
-            Refusal::Levels => 13,
-            Refusal::Scenario => 14,
-            Refusal::Level => 15,
-            Refusal::Confidence => 16,
-            Refusal::Range => 17,
-        }
+        self as u32
     }
 }

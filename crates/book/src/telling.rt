@@ -58,7 +58,7 @@ fn mix(shares: &[u32], rows: &[Grains], places: usize, found: usize) -> Grains
     let mut upper: u64 = 0;
     for (s, share) in shares.iter().enumerate() {
         let share = u64::from(*share);
-        let bounds = Bounds::of(told::<Bounds>(rows, places, s, found));
+        let bounds = Bounds::from(told::<Bounds>(rows, places, s, found));
         lower += share * bounds.lower();
         upper += share * bounds.upper();
     }

@@ -1,1 +1,2 @@
 pub mod EachOnce
+mod Attained

@@ -1,25 +1,22 @@
--- The law of Claims, and that what it tells is the greatest.
-use Rattle.std.specs.Prelude.{◌≡◌, ℕ, zero, suc, ◌-◌, ◌*◌, ◌<◌, ◌≤◌, max, Bool, true, false, cond, ltb, ◌⊎◌, List, [], ◌∷◌, ◌++◌, length, Some, None, Option, ◌==◌, nat_lt, slice_index_or, refl}
-use Rattle.std.proofs.Common.{sym, ap, subst, ◌∙◌, inl, inr, ⊎_elim, mul-pos, mul-le-mul_right, mul-le-mul_left, arith}
-use Rattle.std.specs.List.{ContainsAt}
-use Rattle.std.proofs.ByRecursion.{has_append_right}
-use Rattle.std.proofs.lemmas.Bool.{cases_lt, lt-ltb, le-ltb, ltb-true, ltb-false, eqb-true, eqb-false, cond_both}
+-- The laws of Claims.
+use Rattle.std.specs.Prelude.{◌≡◌, ℕ, suc, ◌-◌, ◌*◌, ◌<◌, ◌≤◌, Bool, true, false, cond, List, [], ◌∷◌, ◌++◌, length, Some, None, Option, ◌==◌, nat_lt, refl}
+use Rattle.std.proofs.Common.{sym, ap, ◌∙◌, ⊎_elim, mul-pos, arith}
+use Rattle.std.proofs.Math.Nat.{max-eq_left, max-eq_right, lt_of_mul-lt-mul_left}
+use Rattle.std.proofs.lemmas.Bool.{cases_lt, le-ltb, ltb-true, eqb-true, eqb-false, cond_both}
+use Rattle.std.proofs.lemmas.Bool.Decides.{nat_tests}
 use Rattle.reckoning.specs.Outcomes.{Outcome, Family, odds, weight, extended, either}
-use Rattle.reckoning.specs.Counting.{claims, greater, greatest, Ranged, checked, one_more, blended, Stands, Comes, IsGreatest, GreatestIsGreatest}
+use Rattle.reckoning.specs.Counting.{claims, greater, greatest, Ranged, checked, one_more, blended, Stands}
 use Rattle.reckoning.specs.Weights.{weight_push}
-
-pub stands_for_none : (rates : List ℕ) → Stands None rates []
-stands_for_none rates = record { ranged = tt; is = refl }
 
 pub stands_for_whole : Stands (Some 0) [] ([] ∷ [])
 stands_for_whole = record { ranged = omega arith; is = refl }
 
-pub ranged_where_stands : (u : Option ℕ) (rates : List ℕ) (family : Family) → Stands u rates family → Ranged u
-ranged_where_stands u rates family s = s.ranged
-
-greater_none : (a : Option ℕ) → greater a None ≡ a
-greater_none None = refl
-greater_none (Some k) = refl
+-- what holds of both holds of the greater
+greater_keeps : (P : Option ℕ → Type 0) (a b : Option ℕ) → P a → P b → P (greater a b)
+greater_keeps P None b p q = q
+greater_keeps P (Some i) None p q = p
+greater_keeps P (Some i) (Some j) p q =
+    ⊎_elim (λ l. rw (max-eq_right {n = i} {m = j} (omega arith)) q) (λ m. rw (max-eq_left {n = i} {m = j} m) p) (cases_lt i j)
 
 greater_assoc : (a b c : Option ℕ) → greater (greater a b) c ≡ greater a (greater b c)
 greater_assoc None b c = refl
@@ -57,16 +54,9 @@ claims_true [] = refl
 claims_true (true ∷ o) = ap suc (claims_true o)
 claims_true (false ∷ o) = claims_true o
 
-positive : (w s : ℕ) → 0 < s → nat_lt 0 (w * s) ≡ nat_lt 0 w
-positive w s h =
-    ⊎_elim
-    (λ p. lt-ltb 0 (w * s) (mul-pos p h) ∙ sym (lt-ltb 0 w p))
-    (λ q. le-ltb 0 (w * s) (omega (arith, mul-le-mul_right s q)) ∙ sym (le-ltb 0 w q))
-    (cases_lt 0 w)
-
 module _ (rs : List ℕ) (r : ℕ) where
   pub weighs : (o : Outcome) (b : Bool) → 0 < odds r b → nat_lt 0 (weight (rs ++ (r ∷ [])) (o ++ (b ∷ []))) ≡ nat_lt 0 (weight rs o)
-  weighs o b h = ap (ltb 0) (weight_push rs o r b) ∙ positive (weight rs o) (odds r b) h
+  weighs o b h = rw weight_push (grind (arith, nat_tests, mul-pos))
 
   pub weightless : (o : Outcome) (b : Bool) → odds r b ≡ 0 → nat_lt 0 (weight (rs ++ (r ∷ [])) (o ++ (b ∷ []))) ≡ false
   weightless o b h = le-ltb 0 _ (omega (arith, weight_push rs o r b, ap (λ k. weight rs o * k) h))
@@ -91,7 +81,7 @@ Within n None = Unit {0}
 Within n (Some k) = k ≤ n
 
 factor : (a b : ℕ) → 0 < a * b → 0 < b
-factor a b h = ⊎_elim (λ p. p) (λ q. omega (arith, mul-le-mul_left a q)) (cases_lt 0 b)
+factor a b h = lt_of_mul-lt-mul_left a (omega arith)
 
 claims_within : (rs : List ℕ) (o : Outcome) → 0 < weight rs o → claims o ≤ length rs
 claims_within [] [] h = omega arith
@@ -100,15 +90,10 @@ claims_within (r ∷ rs) [] h = omega arith
 claims_within (r ∷ rs) (true ∷ bs) h = omega (arith, claims_within rs bs (factor r (weight rs bs) h))
 claims_within (r ∷ rs) (false ∷ bs) h = omega (arith, claims_within rs bs (factor (1000000 - r) (weight rs bs) h))
 
-greater_within : (n : ℕ) (a b : Option ℕ) → Within n a → Within n b → Within n (greater a b)
-greater_within n None b p q = q
-greater_within n (Some i) None p q = p
-greater_within n (Some i) (Some j) p q = omega arith
-
 greatest_within : (rs : List ℕ) (os : Family) → Within (length rs) (greatest rs os)
 greatest_within rs [] = tt
 greatest_within rs (o ∷ os) =
-    greater_within (length rs) _ _
+    greater_keeps (Within (length rs)) _ _
     (cond_both (nat_lt 0 (weight rs o)) (Some (claims o)) None (Within (length rs)) (λ e. claims_within rs o (ltb-true _ _ e)) (λ _. tt))
     (greatest_within rs os)
 
@@ -120,11 +105,6 @@ one_more_is : (n : ℕ) → n ≤ 255 → (v : Option ℕ) → Within n v → on
 one_more_is n few None h = refl
 one_more_is n few (Some k) h = ap Some (omega arith)
 
-greater_ranged : (a b : Option ℕ) → Ranged a → Ranged b → Ranged (greater a b)
-greater_ranged None b p q = q
-greater_ranged (Some i) None p q = p
-greater_ranged (Some i) (Some j) p q = omega arith
-
 pub checked_ranged : (u : Option ℕ) → Ranged (checked u)
 checked_ranged None = tt
 checked_ranged (Some k) = omega arith
@@ -135,7 +115,7 @@ one_more_ranged (Some k) = omega arith
 
 pub blended_ranged : (r : ℕ) (u v : Option ℕ) → Ranged (blended r u v)
 blended_ranged r u v =
-    greater_ranged _ _
+    greater_keeps Ranged _ _
     (cond_both (r == 1000000) None (checked u) Ranged (λ _. tt) (λ _. checked_ranged u))
     (cond_both (r == 0) None (one_more v) Ranged (λ _. tt) (λ _. one_more_ranged v))
 
@@ -161,49 +141,3 @@ module _ (r : ℕ) (h : r ≤ 1000000) (rates : List ℕ) (few : length rates �
 pub checked_same : (u : Option ℕ) → Ranged u → checked u ≡ u
 checked_same None h = refl
 checked_same (Some k) h = ap Some (omega arith)
-
--- an outcome that comes in a shorter family comes in a longer one
-comes_later : (rates : List ℕ) (o : Outcome) (os : Family) (k : ℕ) → Comes rates os k → Comes rates (o ∷ os) k
-comes_later rates o os k c = record { outcome = c.outcome; member = has_append_right (o ∷ []) os c.outcome c.member; weighs = c.weighs; count = c.count }
-
-comes_first : (rates : List ℕ) (o : Outcome) (os : Family) → 0 < weight rates o → Comes rates (o ∷ os) (claims o)
-comes_first rates o os h = record { outcome = o; member = (0, omega arith, λ d. refl); weighs = h; count = refl }
-
-has_cases : {X : Type 0} (y : X) (ys : List X) (x : X) (k : ℕ) → k < length (y ∷ ys) → ((d : X) → slice_index_or (y ∷ ys) k d ≡ x) → ContainsAt ys x ⊎ (y ≡ x)
-has_cases y ys x zero h at = inr (at y)
-has_cases y ys x (suc k) h at = inl (k, omega arith, at)
-
--- where it comes: first, or later
-comes_cases : (rates : List ℕ) (o : Outcome) (os : Family) (k : ℕ) → Comes rates (o ∷ os) k → ((0 < weight rates o) × (claims o ≡ k)) ⊎ Comes rates os k
-comes_cases rates o os k c =
-    ⊎_elim
-    (λ h. inr (record { outcome = c.outcome; member = h; weighs = c.weighs; count = c.count }))
-    (λ e. inl (subst (λ (x : Outcome). 0 < weight rates x) (sym e) c.weighs, ap claims e ∙ c.count))
-    (has_cases o os c.outcome c.member.0 c.member.1 c.member.2)
-
-max_right : {i j : ℕ} → i < j → j ≡ max i j
-max_right h = omega arith
-
-max_left : {i j : ℕ} → j ≤ i → i ≡ max i j
-max_left h = omega arith
-
--- one outcome more in front, of weight above zero or not
-greatest_step : (rates : List ℕ) (o : Outcome) (os : Family) (b : Bool) (m : Option ℕ) → (b ≡ true → 0 < weight rates o) → (b ≡ false → weight rates o ≤ 0) →
-    IsGreatest rates os m → IsGreatest rates (o ∷ os) (greater (cond b (Some (claims o)) None) m)
-greatest_step rates o os true None yes' no' none =
-    (comes_first rates o os (yes' refl), λ k c. ⊎_elim (λ first. omega arith) (λ later. absurd (none k later)) (comes_cases rates o os k c))
-greatest_step rates o os true (Some m) yes' no' (at, most) = (
-  ⊎_elim
-      (λ less. subst (Comes rates (o ∷ os)) (max_right less) (comes_later rates o os m at))
-      (λ more. subst (Comes rates (o ∷ os)) (max_left more) (comes_first rates o os (yes' refl)))
-      (cases_lt (claims o) m),
-  λ k c. ⊎_elim (λ first. omega arith) (λ later. omega (arith, most k later)) (comes_cases rates o os k c),
-)
-greatest_step rates o os false None yes' no' none = λ k c. ⊎_elim (λ first. omega (arith, no' refl)) (none k) (comes_cases rates o os k c)
-greatest_step rates o os false (Some m) yes' no' (at, most) =
-    (comes_later rates o os m at, λ k c. ⊎_elim (λ first. omega (arith, no' refl)) (most k) (comes_cases rates o os k c))
-
-pub greatest_is_greatest : GreatestIsGreatest
-greatest_is_greatest rates [] = λ k c. omega (arith, c.member.1)
-greatest_is_greatest rates (o ∷ os) =
-    greatest_step rates o os (nat_lt 0 (weight rates o)) (greatest rates os) (ltb-true _ _) (ltb-false _ _) (greatest_is_greatest rates os)

@@ -1,7 +1,7 @@
 // The greatest number of claims in a family.
-ghost use Rattle.std.specs.Prelude.{◌≡◌, Some, None};
-ghost use Rattle.reckoning.specs.Counting.{counts, greater, Ranged, checked, one_more, Stands, GreatestIsGreatest};
-ghost use Rattle.reckoning.specs.Greatest.{blended_stands, blended_ranged, checked_ranged, checked_same, stands_for_none, stands_for_whole, ranged_where_stands};
+ghost use Rattle.std.specs.Prelude.{Some, None, refl};
+ghost use Rattle.reckoning.specs.Counting.{counts, Ranged, checked, Stands, GreatestIsGreatest};
+ghost use Rattle.reckoning.specs.Greatest.{blended_stands, blended_ranged, checked_ranged, checked_same, stands_for_whole};
 
 use crate::rate::Rate;
 use crate::reckoning::Reckoning;
@@ -9,36 +9,6 @@ use crate::reckoning::Reckoning;
 // Reckons a count up to 256, or none where no outcome can come about.
 #[derive(Clone, Copy, Debug)]
 pub struct Claims;
-
-// A place's count as it is read.
-fn count_of(place: Option<u16>) -> Option<u16>
-    ensures { result ≡ checked place }
-{
-    match place {
-        Some(count) => Some(count.min(256)),
-        None => None,
-    }
-}
-
-// A place's count with the claim of one contract more.
-fn count_with_claim(place: Option<u16>) -> Option<u16>
-    ensures { result ≡ one_more place }
-{
-    match place {
-        Some(count) => Some(if count < 256 { count + 1 } else { 256 }),
-        None => None,
-    }
-}
-
-fn greater_of(a: Option<u16>, b: Option<u16>) -> Option<u16>
-    ensures { result ≡ greater a b }
-{
-    match (a, b) {
-        (Some(i), Some(j)) => Some(i.max(j)),
-        (Some(i), None) => Some(i),
-        (None, rest) => rest,
-    }
-}
 
 impl Reckoning for Claims {
     type Value = Option<u16>;
@@ -51,13 +21,13 @@ impl Reckoning for Claims {
 
     ghost stands = { Stands };
 
-    ghost nothing_stands = { stands_for_none };
+    ghost nothing_stands = { λ rates. record { ranged = tt; is = refl } };
 
     ghost whole_stands = { stands_for_whole };
 
     ghost blend_stands = { λ r u v rates us vs h few su sv. blended_stands r h rates few u v us vs su sv };
 
-    ghost stands_ranged = { ranged_where_stands };
+    ghost stands_ranged = { λ u rates family s. s.ranged };
 
     ghost blend_ranged = { λ r u v h. blended_ranged r u v };
 
@@ -77,18 +47,18 @@ impl Reckoning for Claims {
         let without = if rate.millionths() == 1_000_000 {
             None
         } else {
-            count_of(u)
+            Self::read(u)
         };
         let with = if rate.millionths() == 0 {
             None
         } else {
-            count_with_claim(v)
+            v.map(|count| count.min(255) + 1)
         };
-        greater_of(without, with)
+        without.max(with)
     }
 
     fn read(place: Option<u16>) -> Option<u16> {
-        count_of(place)
+        place.map(|count| count.min(256))
     }
 }
 

@@ -3,6 +3,7 @@ ghost use Rattle.std.specs.Prelude.{◌≡◌, ◌≤◌, true, MatchOption};
 ghost use Rattle.reckoning.specs.Outcomes.{loss_wrong};
 
 // The fixed sum that a claim costs, from 1 to 65,535 units.
+// No one type with a range as parameters serves it and Rate: nothing would keep units and millionths apart then.
 #[derive(Clone, Copy, Debug, PartialEq, Eq)]
 pub struct Loss {
     units: u32,

@@ -1,9 +1,8 @@
 -- The outcomes that are counted, where one pair more stands at the end.
-use Rattle.std.proofs.Common.{◌≡◌, ℕ, suc, ◌+◌, ◌-◌, ◌^◌, ◌<◌, Bool, true, false, cond, ◌&&◌, ltb, leb, List, [], ◌∷◌, ◌++◌, length, get_or, take, sym, refl, ap, ◌∙◌, inl, inr, add-one, arith, length-append}
-use native.Mathlib.Nat.{sub-zero, two-pow-succ}
-use Rattle.std.proofs.lemmas.List.{length_push, length-map, map_push, nil_from_length, take_all, take_more}
+use Rattle.std.proofs.Common.{◌≡◌, ℕ, suc, ◌+◌, ◌-◌, ◌<◌, Bool, true, false, cond, ◌&&◌, ltb, leb, List, [], ◌∷◌, ◌++◌, length, refl, ◌∙◌, inl, inr, add-one, arith, length-append}
+use Rattle.std.proofs.lemmas.List.{length_push, length-map, map_push}
 use Rattle.std.proofs.lemmas.List.Elements.{filter-append}
-use Rattle.std.proofs.lemmas.Bool.{le-leb, ltb-true, ltb-false, and_parts, and_cases}
+use Rattle.std.proofs.lemmas.Bool.{ltb-true, ltb-false, and_parts, and_cases, cond_both}
 use Rattle.reckoning.specs.Outcomes.{Outcome, Family, odds, weight, extended, either, outcomes, within}
 use Rattle.reckoning.specs.Greatest.{weighs, weightless}
 use Rattle.book.proofs.Families.{outcomes_sized, within_either}
@@ -45,50 +44,31 @@ module _ (ps : List Pair) (p : Pair) (k : ℕ) where
   split = within_either (losses ps) p.loss k (outcomes (length ps)) (rw length-map (outcomes_sized (length ps)))
 
   -- as many as lie on either branch
-  abbrev pub without_claim : ℕ
+  abbrev without_claim : ℕ
   without_claim = length (possible all_rates (extended false before))
 
-  abbrev pub with_claim : ℕ
+  abbrev with_claim : ℕ
   with_claim = length (possible all_rates (extended true room))
 
   two_branches : tally (ps ++ (p ∷ [])) k ≡ without_claim + with_claim
   two_branches = rw (map_push, map_push, length_push, add-one, split, filter-append, length-append)
 
-  pub without_open : ltb 0 (odds p.rate false) ≡ true → without_claim ≡ tally ps k
-  without_open h = branch_open (rates ps) p.rate false (ltb-true _ _ h) before
+  without_is : without_claim ≡ cond (ltb 0 (odds p.rate false)) (tally ps k) 0
+  without_is =
+      cond_both (ltb 0 (odds p.rate false)) (tally ps k) 0 (λ n. without_claim ≡ n)
+      (λ e. branch_open (rates ps) p.rate false (ltb-true _ _ e) before)
+      (λ e. branch_shut (rates ps) p.rate false (omega (arith, ltb-false _ _ e)) before)
 
-  pub without_shut : ltb 0 (odds p.rate false) ≡ false → without_claim ≡ 0
-  without_shut h = branch_shut (rates ps) p.rate false (omega (arith, ltb-false _ _ h)) before
-
-  pub with_open : (ltb 0 (odds p.rate true) && leb p.loss k) ≡ true → with_claim ≡ tally ps (k - p.loss)
-  with_open h =
-      let both = and_parts _ _ h in
-      branch_open (rates ps) p.rate true (ltb-true _ _ both.0) room ∙ rw both.1
-
-  pub with_shut : (ltb 0 (odds p.rate true) && leb p.loss k) ≡ false → with_claim ≡ 0
-  with_shut h =
-      elim (and_cases (ltb 0 p.rate) (leb p.loss k) h) [
+  with_is : with_claim ≡ cond (ltb 0 (odds p.rate true) && leb p.loss k) (tally ps (k - p.loss)) 0
+  with_is =
+      cond_both (ltb 0 (odds p.rate true) && leb p.loss k) (tally ps (k - p.loss)) 0 (λ n. with_claim ≡ n)
+      (λ e. let both = and_parts _ _ e in branch_open (rates ps) p.rate true (ltb-true _ _ both.0) room ∙ rw both.1)
+      (λ e.
+      elim (and_cases (ltb 0 p.rate) (leb p.loss k) e) [
         | inl never ↦ branch_shut (rates ps) p.rate true (omega (arith, ltb-false 0 p.rate never)) room
         | inr above ↦ rw above
-      ]
+      ])
 
-module _ (ps : List Pair) where
-  -- the last pair, and those before it
-  abbrev pub last : Pair
-  last = get_or ps (length ps - 1) (record { loss = 0; rate = 0 })
-
-  abbrev pub rest : List Pair
-  rest = take (length ps - 1 - 0) ps
-
-  pub none_tallied : (k : ℕ) → length ps ≡ 0 → tally ps k ≡ 1
-  none_tallied k e = rw (nil_from_length ps e, le-leb 0 k (omega arith))
-
-  module _ (some : 0 < length ps) where
-    rest_last : ps ≡ rest ++ (last ∷ [])
-    rest_last = rw sub-zero (sym (take_all (length ps - 1 + 1) ps (omega arith)) ∙ take_more ps (length ps - 1) _ (omega arith))
-
-    pub tallied : (k : ℕ) → tally ps k ≡ without_claim rest last k + with_claim rest last k
-    tallied k = ap (λ (qs : List Pair). tally qs k) rest_last ∙ two_branches rest last k
-
-    pub leaves_double : 2 ^ length ps ≡ 2 ^ length rest + 2 ^ length rest
-    leaves_double = ap (λ (qs : List Pair). 2 ^ length qs) rest_last ∙ rw (length_push, add-one) (two-pow-succ (length rest))
+  -- as many as the tree of the pairs before has on either branch that counts
+  pub tallied : tally (ps ++ (p ∷ [])) k ≡ cond (ltb 0 (odds p.rate false)) (tally ps k) 0 + cond (ltb 0 (odds p.rate true) && leb p.loss k) (tally ps (k - p.loss)) 0
+  tallied = two_branches ∙ rw (without_is, with_is)

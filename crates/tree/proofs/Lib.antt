@@ -1,1 +1,2 @@
+mod Anys
 mod Branches

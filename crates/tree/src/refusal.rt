@@ -2,15 +2,15 @@
 ghost use Rattle.std.specs.Prelude.{◌≡◌};
 ghost use Rattle.tree.specs.Counted.{number_of};
 
-// The reasons for which a count is declined.
+// The reasons for which a count is declined, each with its number.
 #[derive(Clone, Copy, Debug, PartialEq, Eq)]
 pub enum CountRefusal {
     // A loss is out of range.
-    Loss,
+    Loss = 8,
     // A rate exceeds a million.
-    Rate,
+    Rate = 9,
     // There are more than 16 pairs.
-    TooMany,
+    TooMany = 19,
 }
 
 impl CountRefusal {
@@ -18,10 +18,6 @@ impl CountRefusal {
     pub fn number(self) -> u32
         ensures { result ≡ number_of self }
     {
-        match self {
-            CountRefusal::Loss => 8,
-            CountRefusal::Rate => 9,
-            CountRefusal::TooMany => 19,
-        }
+        self as u32
     }
 }

@@ -18,12 +18,12 @@ told-requires c =
 lower_is : (c : goal.After-lower) → c.lower.result ≡ (told_in c.args.places c.args.rows.now c.args.found (1 + c.loop-s.s)).lower
 lower_is c =
     c.lower.ensures
-    ∙ ap (λ (g : Grains). g.lower) (bounds_told c.args.places c.args.rows.now c.args.found c.loop-s.s c.told.result c.of-bounds.result.lower c.of-bounds.result.upper c.told.ensures.value c.of-bounds.ensures)
+    ∙ ap (λ (g : Grains). g.lower) (bounds_told c.args.places c.args.rows.now c.args.found c.loop-s.s c.told.result c.from-bounds.result.lower c.from-bounds.result.upper c.told.ensures.value c.from-bounds.ensures)
 
 upper_is : (c : goal.After-upper) → c.upper.result ≡ (told_in c.args.places c.args.rows.now c.args.found (1 + c.loop-s.s)).upper
 upper_is c =
     c.upper.ensures
-    ∙ ap (λ (g : Grains). g.upper) (bounds_told c.args.places c.args.rows.now c.args.found c.loop-s.s c.told.result c.of-bounds.result.lower c.of-bounds.result.upper c.told.ensures.value c.of-bounds.ensures)
+    ∙ ap (λ (g : Grains). g.upper) (bounds_told c.args.places c.args.rows.now c.args.found c.loop-s.s c.told.result c.from-bounds.result.lower c.from-bounds.result.upper c.told.ensures.value c.from-bounds.ensures)
 
 lower_fits : (c : goal.After-lower) → c.loop-s.lower + c.from-share.result * c.lower.result ≤ 1000000000000 * 1000000
 lower_fits c =
@@ -50,7 +50,7 @@ overflow_add-upper c = omega (arith, upper_fits c)
 pub loop-s-preserved : goal.loop-s-preserved
 loop-s-preserved c =
     let rows = c.args.rows.now in
-    let below = bounds_told c.args.places rows c.args.found c.loop-s.s c.told.result c.of-bounds.result.lower c.of-bounds.result.upper c.told.ensures.value c.of-bounds.ensures in (
+    let below = bounds_told c.args.places rows c.args.found c.loop-s.s c.told.result c.from-bounds.result.lower c.from-bounds.result.upper c.told.ensures.value c.from-bounds.ensures in (
       turn c.args.shares.now (λ s. (told_in c.args.places rows c.args.found s).lower) c.loop-s.s c.loop-s.lower c.from-share.result c.lower.result
           c.loop-s-test.true c.loop-s.invariant.0 c.from-share.ensures (c.lower.ensures ∙ ap (λ (g : Grains). g.lower) below),
       turn c.args.shares.now (λ s. (told_in c.args.places rows c.args.found s).upper) c.loop-s.s c.loop-s.upper c.from-share.result c.upper.result

@@ -1,4 +1,4 @@
-use Rattle.reckoning.specs.Greatest.{greatest_is_greatest}
+use Rattle.reckoning.proofs.Attained.{greatest_is_greatest}
 use Rattle.reckoning.proofs.claims.greatest_stands.Goals as goal
 
 pub returns : goal.returns
