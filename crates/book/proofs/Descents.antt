@@ -1,9 +1,11 @@
 -- One turn of the merge, by what the two highest levels left are.
-use Rattle.std.proofs.Common.{◌≡◌, ℕ, suc, ◌+◌, ◌-◌, ◌<◌, ◌≤◌, Bool, true, false, ◌&&◌, leb, List, length, get_or, take, sym, ap, ◌∙◌, subst, inl, inr, arith}
-use Rattle.std.proofs.lemmas.Bool.{cases_Bool, cases_lt, or_left, or_right, or_from, and_from, and_left, and_right, le-leb, lt-leb}
+use Rattle.std.proofs.Common.{◌≡◌, ℕ, suc, ◌+◌, ◌-◌, ◌^◌, ◌<◌, ◌≤◌, Bool, true, false, ◌&&◌, leb, ltb, eqb, min, List, length, get_or, take, sym, ap, ◌∙◌, subst, inl, inr, arith}
+use Rattle.std.proofs.lemmas.Bool.{cases_Bool, cases_lt, or_left, or_right, or_from, and_from, and_left, and_right, le-leb, lt-leb, cond_both, eqb-true, eqb-false, ltb-true, ltb-false}
 use Rattle.std.proofs.lemmas.List.{length_push, length-take}
 use Rattle.book.specs.Levels.{picked}
 use Rattle.book.specs.Merging.{widened, Last}
+use Rattle.book.specs.declared.merging.Merge.{Merge}
+use Rattle.book.specs.Turned.{Step, step, higher, turned, TurnsTo}
 use Rattle.book.proofs.Picks.{picked_yes, gap, ends, last, rank_mono, front_of, read_last}
 
 pub none_picked : (S : ℕ → Bool) (n z : ℕ) → length (picked S n) ≡ 0 → z < n → S z ≡ false
@@ -130,3 +132,44 @@ module _ (S : ℕ → Bool) (w x : ℕ) (xs : List ℕ) (own moved : ℕ) (some 
   -- a moved level that is left lies below x
   pub moved_within : 0 < moved → get_or xs (moved - 1) 0 + w < x
   moved_within h = let s = moved_last h in let ss = s.2 in let b = s.1.below in omega arith
+
+  -- the turn that the specification names is one of them
+  pub turned_left : x ≤ 2 ^ 32 → Left S w x xs (turned xs own moved w).top (turned xs own moved w).own (turned xs own moved w).moved
+  turned_left low =
+      let Lefts = λ (s : Step). Left S w x xs s.top s.own s.moved in
+      let a = get_or xs (own - 1) 0 in
+      let b = min (get_or xs (moved - 1) 0 + w) 4294967295 in
+      cond_both (eqb moved 0) (step a (own - 1) moved) (higher a b own moved) Lefts (λ e. alone (eqb-true moved 0 e))
+      (λ e.
+      let h : 0 < moved = omega (arith, eqb-false moved 0 e) in
+      let k = moved_within h in
+      let is : get_or xs (moved - 1) 0 + w ≡ b = omega arith in
+      cond_both (ltb a b) (step b own (moved - 1)) _ Lefts
+      (λ l. let lt = ltb-true a b l in subst (λ (y : ℕ). Left S w x xs y own (moved - 1)) is (below h (omega arith)))
+      (λ l.
+      let ge = ltb-false a b l in
+      cond_both (ltb b a) (step a (own - 1) moved) (step a (own - 1) (moved - 1)) Lefts
+      (λ m. let gt = ltb-true b a m in above h (omega arith))
+      (λ m. let le = ltb-false b a m in level h (omega arith))))
+
+-- a turn takes the last own level, the last moved one or both
+pub record Falls (own moved : ℕ) (s : Step) : Type 0 where
+  pub own_falls : s.own ≤ own
+  pub moved_falls : s.moved ≤ moved
+  pub one_falls : s.own + s.moved < own + moved
+  pub by_one : own ≤ s.own + 1
+
+pub falls : (xs : List ℕ) (own moved w : ℕ) → 0 < own → Falls own moved (turned xs own moved w)
+falls xs own moved w some =
+    let a = get_or xs (own - 1) 0 in
+    let b = min (get_or xs (moved - 1) 0 + w) 4294967295 in
+    let own_only : Falls own moved (step a (own - 1) moved) = record { own_falls = omega arith; moved_falls = omega arith; one_falls = omega arith; by_one = omega arith } in
+    cond_both (eqb moved 0) (step a (own - 1) moved) (higher a b own moved) (Falls own moved) (λ _. own_only)
+    (λ e.
+    let h : 0 < moved = omega (arith, eqb-false moved 0 e) in
+    cond_both (ltb a b) (step b own (moved - 1)) _ (Falls own moved) (λ _. record { own_falls = omega arith; moved_falls = omega arith; one_falls = omega arith; by_one = omega arith })
+    (λ _. cond_both (ltb b a) (step a (own - 1) moved) (step a (own - 1) (moved - 1)) (Falls own moved) (λ _. own_only)
+    (λ _. record { own_falls = omega arith; moved_falls = omega arith; one_falls = omega arith; by_one = omega arith })))
+
+pub turn_falls : (xs : List ℕ) (m rest : Merge) (top : ℕ) → TurnsTo xs m top rest → Falls m.own m.moved (step top rest.own rest.moved)
+turn_falls xs m rest top t = subst (Falls m.own m.moved) (sym t.1) (falls xs m.own m.moved m.loss t.0)

@@ -1,7 +1,7 @@
 -- What stands at the place of a key, and what the list is without it or with other rates there.
-use Rattle.std.proofs.Common.{◌≡◌, ℕ, suc, ◌+◌, ◌<◌, ◌≤◌, true, false, cond, List, [], ◌∷◌, ◌++◌, map, length, get_or, take, drop, set, is_some, Some, None, Option, sym, refl, ap, ◌∙◌, subst, inl, inr, add-one, arith}
-use Rattle.std.specs.List.{remove}
-use Rattle.std.proofs.lemmas.List.{length-map, get_or-map, map-append, map-set, take-map, drop-map, at_drop_more, at_drop_all}
+use Rattle.std.proofs.Common.{◌≡◌, ℕ, suc, ◌+◌, ◌<◌, true, false, cond, List, [], ◌∷◌, ◌++◌, map, length, get_or, take, drop, set, is_some, Some, None, Option, sym, refl, ap, ◌∙◌, subst, inl, inr, add-one, arith}
+use Rattle.std.specs.List.{position_from, remove}
+use Rattle.std.proofs.lemmas.List.{get_or-map, map-append, map-set, take-map, drop-map}
 use Rattle.std.proofs.lemmas.Bool.{cases_Bool, cond-true, cond-false, or_left, or_right, or_from}
 use Rattle.book.specs.declared.contract.Contract.{Contract}
 use Rattle.book.specs.Finding.{place_from, place_of}
@@ -69,32 +69,10 @@ pub place_holds : (k : ℕ) (es : List Entry) (o : Option ℕ) → o ≡ place_o
 place_holds k es (Some i) is = sym (found_stands k i es is).held
 place_holds k es None is = sym (absent k es is)
 
--- ---- a search of the contracts in turn, of which i are passed
-module _ (k n : ℕ) (items : List Contract) where
-  abbrev entries : List Entry
-  entries = map (entry_of n) items
-
-  abbrev pub Passed : ℕ → Type 0
-  Passed i = place_from i k (drop i entries) ≡ place_of k entries
-
-  module _ (i : ℕ) (item : Contract) (within : i < length items) (is : item ≡ get_or items i item) (passed : Passed i) where
-    looks_here : place_of k entries ≡ cond (same_key item.key k) (Some i) (place_from (suc i) k (drop (i + 1) entries))
-    looks_here =
-        let l : i < length entries = omega (arith, length-map items (entry_of n)) in
-        let at : get_or entries i (entry_of n item) ≡ entry_of n item = get_or-map (entry_of n) items i item (entry_of n item) within ∙ ap (entry_of n) (sym is) in
-        sym passed ∙ at_drop_more (place_from i k) entries i (entry_of n item) l
-        ∙ ap (λ (e : Entry). cond (same_key e.key k) (Some i) (place_from (suc i) k (drop (i + 1) entries))) at
-
-    pub found_here : same_key item.key k ≡ true → Some i ≡ place_of k entries
-    found_here same = sym (looks_here ∙ cond-true (same_key item.key k) (Some i) (place_from (suc i) k (drop (i + 1) entries)) same)
-
-    pub passed_more : same_key item.key k ≡ false → Passed (i + 1)
-    passed_more other =
-        ap (λ (j : ℕ). place_from j k (drop (i + 1) entries)) (add-one i)
-        ∙ sym (looks_here ∙ cond-false (same_key item.key k) (Some i) (place_from (suc i) k (drop (i + 1) entries)) other)
-
-  pub passed_all : (i : ℕ) → length items ≤ i → Passed i → None ≡ place_of k entries
-  passed_all i end passed = sym (at_drop_all (place_from i k) entries i (omega (arith, length-map items (entry_of n)))) ∙ passed
+-- the place among contracts is that among their entries
+pub placed : (k n i : ℕ) (items : List Contract) → position_from (λ c. same_key c.key k) i items ≡ place_from i k (map (entry_of n) items)
+placed k n i [] = refl
+placed k n i (c ∷ cs) = ap (cond (same_key c.key k) (Some i)) (ap (λ (j : ℕ). position_from (λ c. same_key c.key k) j cs) (add-one i) ∙ placed k n (suc i) cs)
 
 -- ---- what the changed contracts list
 pub struck_list : (k n i : ℕ) (items rest : List Contract) → rest ≡ remove items i → Some i ≡ place_of k (map (entry_of n) items) → map (entry_of n) rest ≡ without k (map (entry_of n) items)

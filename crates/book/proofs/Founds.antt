@@ -1,5 +1,5 @@
 -- Where the places hold the list, the first kept level that passes is the least level that passes.
-use Rattle.std.proofs.Common.{◌≡◌, ℕ, suc, ◌+◌, ◌-◌, ◌<◌, ◌≤◌, Bool, List, length, get_or, sym, ap, ◌∙◌, subst, arith}
+use Rattle.std.proofs.Common.{◌≡◌, ℕ, suc, ◌+◌, ◌-◌, ◌<◌, ◌≤◌, Bool, List, ◌∷◌, length, get_or, drop, sym, ap, ◌∙◌, subst, add-one, length-drop, drop-cons, arith}
 use Rattle.std.proofs.lemmas.List.{get_or-take, length_push}
 use Rattle.reckoning.specs.declared.grains.Grains.{Grains}
 use Rattle.reckoning.specs.Enclosing.{bounds}
@@ -23,6 +23,13 @@ use Rattle.book.proofs.Readings.{levels_picked, some_level, chance_held}
 pub first_among : (test : ℕ → Bool) (levels : List ℕ) (n : ℕ) (f : Found) → FirstOf test levels n f → Among levels n f
 first_among test levels n (At q) h = (h.0, h.1, h.2)
 first_among test levels n Beyond h = tt
+
+-- the first of what is left past n places
+pub next_is : (xs ys : List ℕ) (n y : ℕ) → y ∷ ys ≡ drop n xs → (n < length xs) × (get_or xs n 0 ≡ y) × (ys ≡ drop (n + 1) xs)
+next_is xs ys n y is =
+    let inside : n < length xs = omega (arith, ap length is, length-drop n xs) in
+    let both : y ∷ ys ≡ get_or xs n 0 ∷ drop (n + 1) xs = is ∙ drop-cons xs n 0 inside ∙ ap (λ (k : ℕ). get_or xs n 0 ∷ drop k xs) (sym (add-one n)) in
+    (inside, cc, cc)
 
 module _ (b : Book) (levels : List ℕ) (rows : List Grains) (held : LevelsHold (listed b) b.kept levels) (held_rows : RowsHold bounds (listed b) b.kept rows) (passes : Grains → Bool) where
   -- the reached levels

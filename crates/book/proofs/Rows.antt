@@ -1,14 +1,16 @@
 -- The values beside the levels: what a turn reads, and what it writes.
-use Rattle.std.proofs.Common.{◌≡◌, ℕ, zero, suc, ◌+◌, ◌-◌, ◌<◌, ◌≤◌, Bool, true, false, leb, ◌⊎◌, List, [], ◌∷◌, ◌++◌, map, length, get_or, take, drop, set, sym, ap, ◌∙◌, subst, inl, inr, arith}
-use Rattle.std.proofs.lemmas.Bool.{cases_Bool, cases_lt, both_ways, le-leb, lt-leb, cond-true, cond-false}
-use Rattle.std.proofs.lemmas.List.{length-take, length-map, length_push, take-take, take-map, map_push, get_or-take, get_or_push, take-set-le, nil_from_length}
+use Rattle.std.proofs.Common.{◌≡◌, ℕ, zero, suc, ◌+◌, ◌-◌, ◌<◌, ◌≤◌, Bool, true, false, leb, List, [], ◌∷◌, ◌++◌, map, length, get_or, take, drop, set, sym, ap, ◌∙◌, subst, cond, eqb, inl, inr, append_assoc, add-one, length-set, arith}
+use Rattle.std.proofs.lemmas.Bool.{cases_Bool, cases_lt, both_ways, le-leb, lt-leb, cond-true, cond-false, cond_both, eqb-true, eqb-false}
+use Rattle.std.proofs.lemmas.List.{length-take, length-map, length_push, take-take, take-map, map_push, get_or-take, get_or_push, take-set-le, drop-set, nil_from_length}
 use Rattle.book.specs.Levels.{picked}
-use Rattle.book.specs.Merging.{widened, Last}
-use Rattle.book.specs.Merging.{Flat}
-use Rattle.book.specs.Values.{lagged}
+use Rattle.reckoning.specs.Operations.{Operations}
+use Rattle.book.specs.Merging.{widened, Last, Flat, Follows}
+use Rattle.book.specs.Told.{found_below}
+use Rattle.book.specs.Turned.{turned, blended_at, row_turned}
+use Rattle.book.specs.Values.{lagged, entered}
 use Rattle.book.proofs.Picks.{ends, last, rank_mono, front}
-use Rattle.book.proofs.Descents.{Left, own_widened, moved_widened, none_picked}
-use Rattle.book.proofs.Turns.{Reached, end, turned, fewer, own_under, tail_more}
+use Rattle.book.proofs.Descents.{own_widened, moved_widened, none_picked, falls}
+use Rattle.book.proofs.Turns.{Reached, starts, own_rank, none_left, left, reached_next, fewer, own_under}
 
 -- f does not change where S has no member
 pub flat_run : {V : Type 0} (S : ℕ → Bool) (f : ℕ → V) → Flat S f → (a b : ℕ) → a ≤ b → ((z : ℕ) → a < z → z ≤ b → S z ≡ false) → f b ≡ f a
@@ -74,41 +76,49 @@ module _ {V : Type 0} (S : ℕ → Bool) (f : ℕ → V) (flat : Flat S f) (vs :
         let lt : y < w = elim (cases_lt y w) [ inl h ↦ h | inr h ↦ absurd (both_ways (S 0) (none_picked S (x - w) 0 none (omega arith)) z) ] in
         sym (cond-false (leb w y) (f (y - w)) nothing (lt-leb w y lt))
 
--- the values from t on are written, before the untouched rest
-abbrev pub Valuing : {V : Type 0} → (ℕ → Bool) → (ℕ → V) → (ℕ → V) → ℕ → ℕ → List V → List ℕ → List V → ℕ → ℕ → ℕ → Type 0
-Valuing S f h w c rest xs vs own moved t =
-    (x : ℕ) × Reached S w c xs own moved x × (t ≡ length (picked (widened w S) x)) × (take own vs ≡ map f (picked S x))
-    × (map h (picked (widened w S) (c + 1)) ++ rest ≡ map h (picked (widened w S) x) ++ drop t vs)
+-- a turn writes the value once the contract is entered, so the turns write them all
+module _ {V : Type 0} (ops : Operations V) (S : ℕ → Bool) (f : ℕ → V) (flat : Flat S f) (zero_in : S 0 ≡ true) (w r : ℕ) (xs : List ℕ) where
+  blends : (vs : List V) (own moved x : ℕ) → Reached S w xs own moved x → 0 < own → take own vs ≡ map f (picked S x) → blended_at ops r vs own moved ≡ entered ops w r f (turned xs own moved w).top
+  blends vs own moved x at some are =
+      let y = (turned xs own moved w).top in
+      let l = (left S w xs own moved x at some).0 in
+      let o = own_rank S w xs own moved x at in
+      let stays = stays_is S f flat vs w x y own o are l ops.nothing some in
+      let falls : cond (eqb moved 0) ops.nothing (get_or vs (moved - 1) ops.nothing) ≡ lagged ops.nothing w f y =
+      cond_both (eqb moved 0) ops.nothing (get_or vs (moved - 1) ops.nothing) (λ (v : V). v ≡ lagged ops.nothing w f y)
+      (λ e. falls_none S f flat vs w x y own o are l ops.nothing zero_in (sym at.moves ∙ eqb-true moved 0 e))
+      (λ e. falls_is S f flat vs w x y own o are l ops.nothing ops.nothing moved at.moves (omega (arith, eqb-false moved 0 e))) in
+      ap (λ (v : V). ops.blended r v (cond (eqb moved 0) ops.nothing (get_or vs (moved - 1) ops.nothing))) stays ∙ ap (ops.blended r (f y)) falls
 
-module _ {V : Type 0} (S : ℕ → Bool) (f h : ℕ → V) (flat : Flat S f) (w c : ℕ) (rest : List V) (xs : List ℕ) (vs : List V) (own moved t : ℕ)
-    (was : Valuing S f h w c rest xs vs own moved t) (within : own ≤ length xs) where
-  pub valued : (y i j : ℕ) (v : V) → 0 < t → t ≤ length vs → i ≤ own → Left S w was.0 xs y i j → v ≡ h y → Valuing S f h w c rest xs (set vs (t - 1) v) i j (t - 1)
-  valued y i j v some le li l same =
-      let x = was.0 in
+  row_written : (t : ℕ) (vs : List V) (own moved x : ℕ) → Reached S w xs own moved x → take own vs ≡ map f (picked S x) → t ≡ length (picked (widened w S) x) → t ≤ length vs →
+      row_turned ops xs w r t vs own moved ≡ map (entered ops w r f) (picked (widened w S) x) ++ drop t vs
+  row_written zero vs own moved x at are all room = ap (λ ys. map (entered ops w r f) ys ++ vs) (sym (nil_from_length (picked (widened w S) x) (sym all)))
+  row_written (suc t) vs own moved x at are all room =
+      let s = turned xs own moved w in
       let U = widened w S in
-      let f1 = fewer S w c xs own moved x was.1 within y i j l in
-      let at = was.2 in
-      let u = own_under S w c xs own moved x was.1 within y i j li l in
-      let k : i ≤ t - 1 = omega arith in
-      let n : length (picked S y) ≡ i = omega (arith, ap length l.1, length-take i xs) in
+      let h = entered ops w r f in
+      let v = blended_at ops r vs own moved in
+      let new = set vs t v in
+      cond_both (eqb own 0) vs (row_turned ops xs w r t new s.own s.moved) (λ (ys : List V). ys ≡ map h (picked U x) ++ drop (suc t) vs)
+      (λ e. let none = none_left S w xs own moved x at (eqb-true own 0 e) in absurd (omega arith))
+      (λ e.
+      let some : 0 < own = omega (arith, eqb-false own 0 e) in
+      let few = fewer S w xs own moved x at some in
+      let under = own_under S w xs own moved x at some in
+      let l = left S w xs own moved x at some in
       let b = l.0.below in
-      let fr = front_row S f flat vs own y x (omega arith) was.3 in (
-        y,
-        turned S w c xs own moved x was.1 within y i j l,
-        omega arith,
-        take-set-le i vs (t - 1) v k ∙ subst (λ (p : ℕ). take p vs ≡ map f (picked S y)) n fr,
-        was.4 ∙ ap (λ (ys : List V). ys ++ drop t vs) (ap (map h) (ends U x y l.0) ∙ map_push h (picked U y) y ∙ ap (λ (a : V). map h (picked U y) ++ (a ∷ [])) (sym same))
-            ∙ tail_more (map h (picked U y)) v t vs some le,
-      )
+      let n = reached_next S w xs own moved x at some in
+      let size = length-set vs t v in
+      let rank = own_rank S w xs s.own s.moved s.top n in
+      let fall = falls xs own moved w some in
+      let front : take s.own vs ≡ map f (picked S s.top) = subst (λ (k : ℕ). take k vs ≡ map f (picked S s.top)) (sym rank) (front_row S f flat vs own s.top x (omega arith) are) in
+      row_written t new s.own s.moved s.top n (take-set-le s.own vs t v (omega arith) ∙ front) (omega arith) (omega arith)
+      ∙ ap (λ (ys : List V). map h (picked U s.top) ++ ys) (drop-set vs t v (omega arith) ∙ ap (λ (u : V). u ∷ drop (t + 1) vs) (blends vs own moved x at some are))
+      ∙ sym (append_assoc (map h (picked U s.top)) (h s.top ∷ []) (drop (t + 1) vs))
+      ∙ ap (λ (ys : List V). ys ++ drop (t + 1) vs) (sym (ap (map h) (ends U x s.top l.0) ∙ map_push h (picked U s.top) s.top))
+      ∙ ap (λ (k : ℕ). map h (picked U x) ++ drop k vs) (add-one t))
 
-  pub all_valued : (t ≡ 0) ⊎ (own ≡ 0) → vs ≡ map h (picked (widened w S) (c + 1)) ++ rest
-  all_valued q =
-      let x = was.0 in
-      let U = widened w S in
-      let at = was.2 in
-      let z : t ≡ 0 = elim q [
-        | inl e ↦ e
-        | inr e ↦ at ∙ end S w c xs own moved x was.1 within e
-      ] in
-      let p : picked U x ≡ [] = nil_from_length (picked U x) (sym at ∙ z) in
-      sym (was.4 ∙ ap (λ (ys : List ℕ). map h ys ++ drop t vs) p ∙ ap (λ (n : ℕ). drop n vs) z)
+pub row_follows : {V : Type 0} (ops : Operations V) (levels : List ℕ) (m n w r c : ℕ) (old : List V) → m ≤ length levels → c ≤ 65535 → n ≤ length old →
+    Follows ops levels m n w r c old (row_turned ops levels w r n old m (found_below levels m (c + 1 - w)))
+row_follows ops levels m n w r c old within low room S f z flat are values count =
+    row_written ops S f flat z w r levels n old m (found_below levels m (c + 1 - w)) (c + 1) (starts S w levels m c within low are) values count room

@@ -1,28 +1,21 @@
--- What the turns of the merge have done so far: the count, and the levels as written.
-use Rattle.std.proofs.Common.{◌≡◌, ℕ, zero, suc, ◌+◌, ◌-◌, ◌<◌, ◌≤◌, Bool, ◌⊎◌, List, [], ◌∷◌, ◌++◌, length, take, drop, set, sym, ap, ◌∙◌, inl, inr, append_assoc, arith}
-use Rattle.std.proofs.lemmas.Bool.{cases_Bool}
+-- What the turns of the merge come to where the levels are those of a set.
+use Rattle.std.proofs.Common.{◌≡◌, ℕ, zero, suc, ◌+◌, ◌-◌, ◌^◌, ◌<◌, ◌≤◌, Bool, eqb, List, [], ◌∷◌, ◌++◌, length, take, drop, set, sym, ap, ◌∙◌, inl, inr, append_assoc, add-one, length-set, arith}
+use Rattle.std.proofs.lemmas.Bool.{cases_Bool, cond_both, eqb-true, eqb-false}
 use Rattle.std.proofs.lemmas.List.{length-take, length_push, take-set-le, drop-set, nil_from_length}
 use Rattle.book.specs.Levels.{picked}
 use Rattle.book.specs.Merging.{widened}
+use Rattle.book.specs.Told.{found_below}
+use Rattle.book.specs.Turned.{Step, turned, turns, levels_turned}
 use Rattle.book.proofs.Picks.{picked_yes, picked_no, gap, ends, rank_mono}
-use Rattle.book.proofs.Descents.{Left, own_widened, not_widened, none_picked}
+use Rattle.book.proofs.Descents.{Left, own_widened, not_widened, none_picked, turned_left, falls}
+use Rattle.book.proofs.Halvings.{found_picked}
 
--- the turns have come down to x
-pub record Reached (S : ℕ → Bool) (w c : ℕ) (xs : List ℕ) (own moved x : ℕ) : Type 0 where
-  pub low : x ≤ c + 1
+-- the merge has come down to x
+pub record Reached (S : ℕ → Bool) (w : ℕ) (xs : List ℕ) (own moved x : ℕ) : Type 0 where
+  pub low : x ≤ 2 ^ 32
+  pub within : own ≤ length xs
   pub owns : take own xs ≡ picked S x
   pub moves : moved ≡ length (picked S (x - w))
-
--- n levels have been counted
-abbrev pub Counting : (ℕ → Bool) → ℕ → ℕ → List ℕ → ℕ → ℕ → ℕ → Type 0
-Counting S w c xs own moved n =
-    (x : ℕ) × Reached S w c xs own moved x × (n + length (picked (widened w S) x) ≡ length (picked (widened w S) (c + 1)))
-
--- the levels from t on are written, before the untouched rest
-abbrev pub Writing : (ℕ → Bool) → ℕ → ℕ → List ℕ → List ℕ → ℕ → ℕ → ℕ → Type 0
-Writing S w c rest xs own moved t =
-    (x : ℕ) × Reached S w c xs own moved x × (t ≡ length (picked (widened w S) x))
-    × (picked (widened w S) (c + 1) ++ rest ≡ picked (widened w S) x ++ drop t xs)
 
 -- where no own level is left, none at all is left
 pub bottom : (w : ℕ) (S : ℕ → Bool) (x : ℕ) → length (picked S x) ≡ 0 → length (picked (widened w S) x) ≡ 0
@@ -39,64 +32,75 @@ rank_sub w S (suc n) =
       | inr e ↦ let m = rank_mono U n (suc n) (omega arith) in omega (arith, ap length (picked_no S n e))
     ]
 
-module _ (S : ℕ → Bool) (w c : ℕ) (xs : List ℕ) (own moved x : ℕ) (r : Reached S w c xs own moved x) (within : own ≤ length xs) where
-  pub own_rank : own ≡ length (picked S x)
-  own_rank = omega (arith, ap length r.owns, length-take own xs)
+module _ (S : ℕ → Bool) (w : ℕ) where
+  -- it starts above the ceiling c
+  pub starts : (xs : List ℕ) (n c : ℕ) → n ≤ length xs → c ≤ 65535 → take n xs ≡ picked S (c + 1) → Reached S w xs n (found_below xs n (c + 1 - w)) (c + 1)
+  starts xs n c within low are = record { low = omega arith; within = within; owns = are; moves = found_picked S xs n (c + 1) (c + 1 - w) within (omega arith) are }
 
-  pub end : own ≡ 0 → length (picked (widened w S) x) ≡ 0
-  end none = bottom w S x (sym own_rank ∙ none)
+  module _ (xs : List ℕ) (own moved x : ℕ) (r : Reached S w xs own moved x) where
+    pub own_rank : own ≡ length (picked S x)
+    own_rank = let k = r.within in omega (arith, ap length r.owns, length-take own xs)
 
-  pub turned : (y i j : ℕ) → Left S w x xs y i j → Reached S w c xs i j y
-  turned y i j l = let b = l.0.below in let d = r.low in record { low = omega arith; owns = l.1; moves = l.2 }
+    pub none_left : own ≡ 0 → length (picked (widened w S) x) ≡ 0
+    none_left none = bottom w S x (sym own_rank ∙ none)
 
-  pub fewer : (y i j : ℕ) → Left S w x xs y i j → length (picked (widened w S) x) ≡ length (picked (widened w S) y) + 1
-  fewer y i j l = ap length (ends (widened w S) x y l.0) ∙ length_push (picked (widened w S) y) y
+    module _ (some : 0 < own) where
+      abbrev next : Step
+      next = turned xs own moved w
 
-  -- the count after a turn, and at the end
-  pub counted : (n y i j : ℕ) → n + length (picked (widened w S) x) ≡ length (picked (widened w S) (c + 1)) → Left S w x xs y i j → Counting S w c xs i j (n + 1)
-  counted n y i j e l = let f = fewer y i j l in (y, turned y i j l, omega arith)
+      pub left : Left S w x xs next.top next.own next.moved
+      left = turned_left S w x xs own moved some r.within r.owns r.moves r.low
 
-  pub count_end : (n : ℕ) → n + length (picked (widened w S) x) ≡ length (picked (widened w S) (c + 1)) → own ≡ 0 → n ≡ length (picked (widened w S) (c + 1))
-  count_end n e none = let f = end none in omega arith
+      pub reached_next : Reached S w xs next.own next.moved next.top
+      reached_next =
+          let l = left in
+          let b = l.0.below in
+          let d = r.low in
+          let k = r.within in
+          let f = falls xs own moved w some in
+          record { low = omega arith; within = omega arith; owns = l.1; moves = l.2 }
 
-  -- the own levels that are left lie below the place that is written next
-  pub own_under : (y i j : ℕ) → i ≤ own → Left S w x xs y i j → i ≤ length (picked (widened w S) y)
-  own_under y i j le l = let s = rank_sub w S y in omega (arith, ap length l.1, length-take i xs)
+      pub fewer : length (picked (widened w S) x) ≡ length (picked (widened w S) next.top) + 1
+      fewer = ap length (ends (widened w S) x next.top left.0) ∙ length_push (picked (widened w S) next.top) next.top
 
--- one more value v before what stands from t on
-pub tail_more : {V : Type 0} (p : List V) (v : V) (t : ℕ) (xs : List V) → 0 < t → t ≤ length xs → (p ++ (v ∷ [])) ++ drop t xs ≡ p ++ drop (t - 1) (set xs (t - 1) v)
-tail_more p v t xs h le =
-    let s : t - 1 + 1 ≡ t = omega arith in
-    let k : t - 1 < length xs = omega arith in
-    append_assoc p (v ∷ []) (drop t xs)
-    ∙ ap (λ (n : ℕ). p ++ (v ∷ drop n xs)) (sym s)
-    ∙ ap (λ ys. p ++ ys) (sym (drop-set xs (t - 1) v k))
+      -- the own levels that are left lie below the place that is written next
+      pub own_under : next.own ≤ length (picked (widened w S) next.top)
+      own_under =
+          let s = rank_sub w S next.top in
+          let k = r.within in
+          let f = falls xs own moved w some in
+          omega (arith, ap length left.1, length-take next.own xs)
 
--- the levels after a turn, and at the end
-module _ (S : ℕ → Bool) (w c : ℕ) (rest xs : List ℕ) (own moved t : ℕ) (was : Writing S w c rest xs own moved t) (within : own ≤ length xs) where
-  pub wrote : (y i j : ℕ) → 0 < t → t ≤ length xs → i ≤ own → Left S w was.0 xs y i j → Writing S w c rest (set xs (t - 1) y) i j (t - 1)
-  wrote y i j some le li l =
-      let x = was.0 in
+  pub turns_counted : (most : ℕ) (xs : List ℕ) (own moved x : ℕ) → Reached S w xs own moved x → own + moved ≤ most → turns most xs own moved w ≡ length (picked (widened w S) x)
+  turns_counted zero xs own moved x r enough = sym (none_left xs own moved x r (omega arith))
+  turns_counted (suc most) xs own moved x r enough =
+      let s = turned xs own moved w in
+      cond_both (eqb own 0) 0 (suc (turns most xs s.own s.moved w)) (λ (n : ℕ). n ≡ length (picked (widened w S) x)) (λ e. sym (none_left xs own moved x r (eqb-true own 0 e)))
+      (λ e.
+      let some : 0 < own = omega (arith, eqb-false own 0 e) in
+      let f = falls xs own moved w some in
+      let more = turns_counted most xs s.own s.moved s.top (reached_next xs own moved x r some) (omega arith) in
+      omega (arith, fewer xs own moved x r some))
+
+  pub levels_written : (t : ℕ) (xs : List ℕ) (own moved x : ℕ) → Reached S w xs own moved x → t ≡ length (picked (widened w S) x) → t ≤ length xs →
+      levels_turned t xs own moved w ≡ picked (widened w S) x ++ drop t xs
+  levels_written zero xs own moved x r all room = ap (λ (ys : List ℕ). ys ++ xs) (sym (nil_from_length (picked (widened w S) x) (sym all)))
+  levels_written (suc t) xs own moved x r all room =
+      let s = turned xs own moved w in
       let U = widened w S in
-      let tr = turned S w c xs own moved x was.1 within y i j l in
-      let f = fewer S w c xs own moved x was.1 within y i j l in
-      let at = was.2 in
-      let u = own_under S w c xs own moved x was.1 within y i j li l in
-      let k : i ≤ t - 1 = omega arith in (
-        y,
-        record { low = tr.low; owns = take-set-le i xs (t - 1) y k ∙ tr.owns; moves = tr.moves },
-        omega arith,
-        was.3 ∙ ap (λ (ys : List ℕ). ys ++ drop t xs) (ends U x y l.0) ∙ tail_more (picked U y) y t xs some le,
-      )
-
-  pub written : (t ≡ 0) ⊎ (own ≡ 0) → xs ≡ picked (widened w S) (c + 1) ++ rest
-  written h =
-      let x = was.0 in
-      let U = widened w S in
-      let at = was.2 in
-      let z : t ≡ 0 = elim h [
-        | inl e ↦ e
-        | inr e ↦ at ∙ end S w c xs own moved x was.1 within e
-      ] in
-      let p : picked U x ≡ [] = nil_from_length (picked U x) (sym at ∙ z) in
-      sym (was.3 ∙ ap (λ (ys : List ℕ). ys ++ drop t xs) p ∙ ap (λ (n : ℕ). drop n xs) z)
+      let new = set xs t s.top in
+      cond_both (eqb own 0) xs (levels_turned t new s.own s.moved w) (λ (ys : List ℕ). ys ≡ picked U x ++ drop (suc t) xs)
+      (λ e. let none = none_left xs own moved x r (eqb-true own 0 e) in absurd (omega arith))
+      (λ e.
+      let some : 0 < own = omega (arith, eqb-false own 0 e) in
+      let few = fewer xs own moved x r some in
+      let under = own_under xs own moved x r some in
+      let n = reached_next xs own moved x r some in
+      let size = length-set xs t s.top in
+      let inside = n.within in
+      let goes : Reached S w new s.own s.moved s.top = record { low = n.low; within = omega arith; owns = take-set-le s.own xs t s.top (omega arith) ∙ n.owns; moves = n.moves } in
+      levels_written t new s.own s.moved s.top goes (omega arith) (omega arith)
+      ∙ ap (λ (ys : List ℕ). picked U s.top ++ ys) (drop-set xs t s.top (omega arith))
+      ∙ sym (append_assoc (picked U s.top) (s.top ∷ []) (drop (t + 1) xs))
+      ∙ ap (λ (ys : List ℕ). ys ++ drop (t + 1) xs) (sym (ends U x s.top (left xs own moved x r some).0))
+      ∙ ap (λ (k : ℕ). picked U x ++ drop k xs) (add-one t))

@@ -4,21 +4,18 @@ use Rattle.reckoning.specs.declared.grains.Grains.{Grains}
 use Rattle.book.specs.declared.book.Book.{Book}
 use Rattle.book.specs.declared.found.Found.{Found}
 use Rattle.book.specs.declared.found.Found.TheVariants.{At, Beyond}
-use Rattle.book.specs.declared.reserving.Side.{Side}
-use Rattle.book.specs.declared.reserving.Side.TheVariants.{Lower, Upper}
 use Rattle.book.specs.Figures.{mixed_at, told_in}
 use Rattle.book.specs.Places.{Places}
 use Rattle.book.specs.Listed.{shares_of}
 use Rattle.book.specs.Pricing.{reaches}
 
--- one count of a pair
-abbrev pub count_of : Side → Grains → ℕ
-count_of Lower g = g.lower
-count_of Upper g = g.upper
-
 -- the bounds of the mix beside the level at place i
 abbrev pub mix_beside : Book → List Grains → ℕ → Grains
 mix_beside b rows i = mixed_at (shares_of b.shares) (told_in b.places rows (i + 1)) 0
+
+-- calls that may answer so answer by the test
+abbrev pub AnswersBy : (Grains → Bool → Type 0) → (Grains → Bool) → Type 0
+AnswersBy post test = (g : Grains) (r : Bool) → post g r → r ≡ test g
 
 -- a level that stands at one of the first n places
 abbrev pub Among : List ℕ → ℕ → Found → Type 0

@@ -1,7 +1,14 @@
 -- What the merge makes of levels and values, whatever they are: turn by turn, from the highest place down.
-use Rattle.std.specs.Prelude.{ℕ, zero, suc, ◌+◌, ◌-◌, min, cond, List, ◌==◌, nat_lt, slice_index, slice_index_or, slice_set}
+use Rattle.std.specs.Prelude.{◌≡◌, ℕ, zero, suc, ◌+◌, ◌-◌, ◌<◌, ◌≤◌, min, cond, List, length, ◌==◌, nat_lt, slice_index, slice_index_or, slice_set}
 use Rattle.reckoning.specs.Operations.{Operations}
-use Rattle.book.specs.declared.merging.Step.{Step}
+use Rattle.book.specs.declared.merging.Merge.{Merge}
+use Rattle.book.specs.Told.{found_below}
+
+-- a turn's level, and how many own and moved levels are left then
+pub record Step : Type 0 where
+  pub top : ℕ
+  pub own : ℕ
+  pub moved : ℕ
 
 abbrev pub step : ℕ → ℕ → ℕ → Step
 step top own moved = record { top = top; own = own; moved = moved }
@@ -39,3 +46,15 @@ abbrev pub row_turned : {V : Type 0} → Operations V → List ℕ → ℕ → �
 row_turned ops levels w r zero row own moved = row
 row_turned ops levels w r (suc t) row own moved =
     cond (own == 0) row (row_turned ops levels w r t (slice_set row t (blended_at ops r row own moved)) (turned levels own moved w).own (turned levels own moved w).moved)
+
+-- the merge of the first n levels with those of them that stay under the ceiling c when they move up by w
+abbrev pub merge_of : List ℕ → ℕ → ℕ → ℕ → Merge
+merge_of levels n w c = record { own = n; moved = found_below levels n (c + 1 - w); loss = w }
+
+-- what is left to merge is among the levels
+abbrev pub LeftOf : List ℕ → Merge → Type 0
+LeftOf levels m = (m.own ≤ length levels) × (m.moved ≤ length levels)
+
+-- a turn takes the level at top and leaves the rest
+abbrev pub TurnsTo : List ℕ → Merge → ℕ → Merge → Type 0
+TurnsTo levels m top rest = (0 < m.own) × (step top rest.own rest.moved ≡ turned levels m.own m.moved m.loss) × (rest.loss ≡ m.loss)

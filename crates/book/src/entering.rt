@@ -44,10 +44,7 @@ pub(crate) fn read_rates(given: &[u32], scenarios: usize) -> Option<[Rate; 8]>
     }
     let mut rates = [Rate::never(); 8];
     for (i, millionths) in given.iter().enumerate() {
-        let Some(rate) = Rate::new(*millionths) else {
-            return None;
-        };
-        rates[i] = rate;
+        rates[i] = Rate::new(*millionths)?;
     }
     Some(rates)
 }
@@ -58,12 +55,9 @@ impl Book {
         ensures place { result ≡ place_of key (listed self.now).contracts }
         ensures within { IfSome result (λ i. i < vec_len self.now.contracts) }
     {
-        for (i, contract) in self.contracts.iter().enumerate() {
-            if is_same_key(contract.key, key) {
-                return Some(i);
-            }
-        }
-        None
+        self.contracts
+            .iter()
+            .position(|contract| is_same_key(contract.key, key))
     }
 
     // Whether a contract of that key is in the book.

@@ -11,19 +11,11 @@ ghost use Rattle.book.specs.Rebuilt.{Begun};
 
 use crate::contract::Contract;
 use crate::frame::Frame;
-use crate::merging::{merge_levels, merged_len};
+use crate::merging::{Merge, merge_levels, merged_len};
 use crate::valuing::merge_rows;
 use reckoning::bounds::Bounds;
 use reckoning::grains::Grains;
 use reckoning::reckoning::Reckoning;
-
-// Puts whole at the front of a row.
-fn begin_row<R: Reckoning>(row: &mut [R::Value])
-    requires { 0 < length row.old }
-    ensures { row.new ≡ slice_set row.old 0 R.Reckoning.operations.whole }
-{
-    row[0] = R::whole();
-}
 
 // Puts whole at the front of each scenario's row.
 fn begin_rows<R: Reckoning>(scenarios: usize, places: usize, rows: &mut [R::Value])
@@ -31,9 +23,9 @@ fn begin_rows<R: Reckoning>(scenarios: usize, places: usize, rows: &mut [R::Valu
     ensures rest { drop (scenarios * places) rows.new ≡ drop (scenarios * places) rows.old }
     ensures each { (s : ℕ) → s < scenarios → row_of places s rows.new ≡ slice_set (row_of places s rows.old) 0 R.Reckoning.operations.whole }
 {
+    // by index: of what is written through chunks_mut no proof knows the values
     for s in 0..scenarios {
-        let at = s * places;
-        begin_row::<R>(&mut rows[at..at + places]);
+        rows[s * places] = R::whole();
     }
 }
 
@@ -69,18 +61,17 @@ pub(crate) fn extend<R: Reckoning>(
     ensures grows { IfSome result (λ n. frame.len ≤ n) }
     ensures lays { (p : Plain) → Framed p frame → Lays R.Reckoning.operations p frame.len (places_of levels.old bounds.old values.old) → Extends R.Reckoning.operations p (entry_of frame.scenarios contract.now) result (places_of levels.new bounds.new values.new) }
 {
-    let ceiling = frame.ceiling;
     let scenarios = frame.scenarios;
     let places = frame.places;
     let len = frame.len;
-    let loss = contract.loss.units();
-    let merged = merged_len(levels, len, loss, ceiling);
+    let merge = Merge::of(&levels[..len], contract.loss.units(), frame.ceiling);
+    let merged = merged_len(levels, merge);
     if merged > places {
         return None;
     }
     let rates = &contract.rates[0..scenarios];
-    merge_rows::<Bounds>(levels, len, merged, loss, ceiling, rates, places, bounds);
-    merge_rows::<R>(levels, len, merged, loss, ceiling, rates, places, values);
-    merge_levels(levels, len, merged, loss, ceiling);
+    merge_rows::<Bounds>(levels, merge, merged, rates, places, bounds);
+    merge_rows::<R>(levels, merge, merged, rates, places, values);
+    merge_levels(levels, merge, merged);
     Some(merged)
 }

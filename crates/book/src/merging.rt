@@ -1,27 +1,25 @@
 // The kept levels of a book, and what one contract more makes of them, in place.
-ghost use Rattle.std.specs.Prelude.{◌≡◌, ℕ, ◌+◌, ◌-◌, ◌*◌, ◌^◌, ◌<◌, ◌≤◌, Bool, List, ◌++◌, length, take, drop};
-ghost use Rattle.book.specs.Levels.{picked};
-ghost use Rattle.book.specs.Merging.{widened, Last};
+ghost use Rattle.std.specs.Prelude.{◌≡◌, ℕ, ◌+◌, ◌-◌, ◌*◌, ◌<◌, ◌≤◌, List, length, drop, MatchOption};
 ghost use Rattle.book.specs.Told.{found_below};
-ghost use Rattle.book.specs.Turned.{turned, turns, levels_turned};
+ghost use Rattle.book.specs.Turned.{turns, levels_turned, merge_of, LeftOf, TurnsTo};
 
-// One turn of the merge: the highest level left, and how many own and moved levels lie below it.
+use std::cmp::Ordering;
+
+// What is left to merge: so many own levels, and so many of those that the loss moves up.
 #[derive(Clone, Copy)]
-pub(crate) struct Step {
-    pub(crate) top: u32,
+pub(crate) struct Merge {
     pub(crate) own: usize,
     pub(crate) moved: usize,
+    pub(crate) loss: u32,
 }
 
-// How many of the first `len` levels lie below `x`, by halving.
-pub(crate) fn below(levels: &[u32], len: usize, x: u32) -> usize
-    requires { len ≤ length levels.now }
-    ensures within { result ≤ len }
-    ensures value { result ≡ found_below levels.now len x }
-    ensures count { (S : ℕ → Bool) (n : ℕ) → x ≤ n → take len levels.now ≡ picked S n → result ≡ length (picked S x) }
+// How many of the levels lie below `x`, by halving. The library's partition_point says nothing of levels that do not rise, and calls tell what is found there too.
+pub(crate) fn below(levels: &[u32], x: u32) -> usize
+    ensures within { result ≤ length levels.now }
+    ensures value { result ≡ found_below levels.now (length levels.now) x }
 {
     let mut low = 0;
-    let mut high = len;
+    let mut high = levels.len();
     while low < high {
         let mid = low + (high - low) / 2;
         if levels[mid] < x {
@@ -33,78 +31,80 @@ pub(crate) fn below(levels: &[u32], len: usize, x: u32) -> usize
     low
 }
 
-// The highest of the first `own` levels and of the first `moved` ones moved up by the loss.
-pub(crate) fn descend(levels: &[u32], own: usize, moved: usize, loss: u32) -> Step
-    requires { (0 < own) × ((own ≤ length levels.now) × (moved ≤ length levels.now)) }
-    ensures turn { result ≡ turned levels.now own moved loss }
-    ensures falls { (result.own ≤ own) × ((result.moved ≤ moved) × ((result.own + result.moved < own + moved) × (own ≤ result.own + 1))) }
-    ensures next { (S : ℕ → Bool) (x : ℕ) → x ≤ 2 ^ 32 → take own levels.now ≡ picked S x → moved ≡ length (picked S (x - loss)) → Last (widened loss S) x result.top × (take result.own levels.now ≡ picked S result.top) × (result.moved ≡ length (picked S (result.top - loss))) }
-{
-    let a = levels[own - 1];
-    if moved == 0 {
-        return Step {
-            top: a,
-            own: own - 1,
+impl Merge {
+    // The merge of the kept levels with those of them that stay under the ceiling when the loss moves them up.
+    pub(crate) fn of(kept: &[u32], loss: u32, ceiling: u32) -> Merge
+        requires { ceiling ≤ 65535 }
+        ensures value { result ≡ merge_of kept.now (length kept.now) loss ceiling }
+        ensures within { result.moved ≤ result.own }
+    {
+        let moved = below(kept, (ceiling + 1).saturating_sub(loss));
+        Merge {
+            own: kept.len(),
             moved,
-        };
+            loss,
+        }
     }
-    let b = levels[moved - 1].saturating_add(loss);
-    if a < b {
-        Step {
-            top: b,
-            own,
-            moved: moved - 1,
+
+    // One turn: the highest level left, and what is left then; none where no own level is left.
+    pub(crate) fn turn(self, levels: &[u32]) -> Option<(u32, Merge)>
+        requires { LeftOf levels.now self }
+        ensures { MatchOption result (self.own ≡ 0) (λ r. TurnsTo levels.now self r.0 r.1) }
+    {
+        if self.own == 0 {
+            return None;
         }
-    } else if b < a {
-        Step {
-            top: a,
-            own: own - 1,
-            moved,
+        let a = levels[self.own - 1];
+        let without_own = Merge {
+            own: self.own - 1,
+            ..self
+        };
+        if self.moved == 0 {
+            return Some((a, without_own));
         }
-    } else {
-        Step {
-            top: a,
-            own: own - 1,
-            moved: moved - 1,
+        let moved = self.moved - 1;
+        let b = levels[moved].saturating_add(self.loss);
+        match a.cmp(&b) {
+            Ordering::Less => Some((b, Merge { moved, ..self })),
+            Ordering::Greater => Some((a, without_own)),
+            Ordering::Equal => Some((
+                a,
+                Merge {
+                    moved,
+                    ..without_own
+                },
+            )),
         }
     }
 }
 
-// How many levels are kept once a contract of that loss is entered. It writes nothing.
-pub(crate) fn merged_len(levels: &[u32], len: usize, loss: u32, ceiling: u32) -> usize
-    requires { (len ≤ length levels.now) × ((len ≤ 65536) × (ceiling ≤ 65535)) }
-    ensures within { result ≤ 2 * len }
-    ensures turns { result ≡ turns (2 * len) levels.now len (found_below levels.now len (ceiling + 1 - loss)) loss }
-    ensures grows { len ≤ result }
-    ensures count { (S : ℕ → Bool) → take len levels.now ≡ picked S (ceiling + 1) → result ≡ length (picked (widened loss S) (ceiling + 1)) }
+// How many levels are kept once the merge is through. It writes nothing.
+pub(crate) fn merged_len(levels: &[u32], merge: Merge) -> usize
+    requires { LeftOf levels.now merge × ((merge.own ≤ 65536) × (merge.moved ≤ merge.own)) }
+    ensures turns { result ≡ turns (2 * merge.own) levels.now merge.own merge.moved merge.loss }
+    ensures grows { merge.own ≤ result }
 {
-    let mut own = len;
-    let mut moved = below(levels, len, (ceiling + 1).saturating_sub(loss));
+    let mut left = merge;
     let mut n = 0;
-    while own > 0 {
-        let step = descend(levels, own, moved, loss);
-        own = step.own;
-        moved = step.moved;
+    while let Some((_, rest)) = left.turn(levels) {
+        left = rest;
         n += 1;
     }
     n
 }
 
-// Writes the `merged` levels that are kept once a contract of that loss is entered, from the top down: the place written is never below one still to be read.
-pub(crate) fn merge_levels(levels: &mut [u32], len: usize, merged: usize, loss: u32, ceiling: u32)
-    requires { (len ≤ length levels.old) × ((merged ≤ length levels.old) × (ceiling ≤ 65535)) }
+// Writes the levels that are kept then into the first `merged` places, from the top down: the place written is never below one still to be read.
+pub(crate) fn merge_levels(levels: &mut [u32], merge: Merge, merged: usize)
+    requires { LeftOf levels.old merge × (merged ≤ length levels.old) }
     ensures rest { drop merged levels.new ≡ drop merged levels.old }
-    ensures turned { levels.new ≡ levels_turned merged levels.old len (found_below levels.old len (ceiling + 1 - loss)) loss }
-    ensures merged { (S : ℕ → Bool) → take len levels.old ≡ picked S (ceiling + 1) → merged ≡ length (picked (widened loss S) (ceiling + 1)) → levels.new ≡ picked (widened loss S) (ceiling + 1) ++ drop merged levels.old }
+    ensures turned { levels.new ≡ levels_turned merged levels.old merge.own merge.moved merge.loss }
 {
-    let mut own = len;
-    let mut moved = below(levels, len, (ceiling + 1).saturating_sub(loss));
-    let mut t = merged;
-    while own > 0 && t > 0 {
-        let step = descend(levels, own, moved, loss);
-        t -= 1;
-        levels[t] = step.top;
-        own = step.own;
-        moved = step.moved;
+    let mut left = merge;
+    for t in (0..merged).rev() {
+        let Some((top, rest)) = left.turn(levels) else {
+            break;
+        };
+        levels[t] = top;
+        left = rest;
     }
 }

@@ -26,23 +26,7 @@ fn total(shares: &[u32]) -> u64
     requires { length shares.now ≤ 8 }
     ensures { result ≡ summed (λ w. w) shares.now }
 {
-    let mut total: u64 = 0;
-    for share in shares {
-        total += u64::from(*share);
-    }
-    total
-}
-
-// The shares in an array of eight.
-fn spread(shares: &[u32]) -> [u32; 8]
-    requires { length shares.now ≤ 8 }
-    ensures { take (length shares.now) result ≡ shares.now }
-{
-    let mut each = [0u32; 8];
-    for (i, share) in shares.iter().enumerate() {
-        each[i] = *share;
-    }
-    each
+    shares.iter().map(|share| u64::from(*share)).sum()
 }
 
 impl Shares {
@@ -57,7 +41,8 @@ impl Shares {
         if total(shares) != 1_000_000 {
             return None;
         }
-        let each = spread(shares);
+        let mut each = [0; 8];
+        each[..count].copy_from_slice(shares);
         Some(Shares { each, count })
     }
 }

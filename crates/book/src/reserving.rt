@@ -1,14 +1,12 @@
 // The reserve for a confidence.
-ghost use Rattle.std.specs.Prelude.{◌≡◌, ◌*◌, ◌≤◌, length, IfOk, nat_le};
-ghost use Rattle.reckoning.specs.Enclosing as Enclosing;
+ghost use Rattle.std.specs.Prelude.{◌≡◌, ◌*◌, ◌≤◌, Bool, length, IfOk};
+ghost use Rattle.reckoning.specs.declared.grains.Grains.{Grains};
 ghost use Rattle.book.specs.Declines.{reserve_sentences};
-ghost use Rattle.book.specs.Figures as Figures;
-ghost use Rattle.book.specs.Laid.{LevelsHold, RowsHold, Holds};
-ghost use Rattle.book.specs.Least.{least};
+ghost use Rattle.book.specs.Laid.{Holds};
 ghost use Rattle.book.specs.Listed.{listed};
 ghost use Rattle.book.specs.Pricing.{reserve_low, reserve_high};
 ghost use Rattle.book.specs.Refusals.{first, refusal_of};
-ghost use Rattle.book.specs.Reserved.{count_of, mix_beside, Among, FirstOf, FirstReached};
+ghost use Rattle.book.specs.Reserved.{mix_beside, AnswersBy, Among, FirstOf, FirstReached};
 ghost use Rattle.book.specs.Places.{handed_of, shown};
 
 use crate::book::Book;
@@ -18,41 +16,26 @@ use crate::shown::Shown;
 use reckoning::grains::Grains;
 use reckoning::reckoning::Reckoning;
 
-// One of the two counts of a pair.
-#[derive(Clone, Copy)]
-pub(crate) enum Side {
-    Lower,
-    Upper,
-}
-
-impl Side {
-    fn count(self, bounds: Grains) -> u64
-        ensures { result ≡ count_of self bounds }
-    {
-        match self {
-            Side::Lower => bounds.lower,
-            Side::Upper => bounds.upper,
-        }
-    }
-}
-
 impl Book {
-    // The first kept level beside which that count of the mix is enough.
-    fn first_reached(&self, side: Side, enough: u64, levels: &[u32], bounds: &[Grains]) -> Found
-        requires { (length levels.now ≡ self.now.places) × (self.now.shares.count * self.now.places ≤ length bounds.now) }
-        ensures told { FirstOf (λ i. nat_le enough (count_of side (mix_beside self.now bounds.now i))) levels.now self.now.kept result }
-        ensures tells { LevelsHold (listed self.now) self.now.kept levels.now → RowsHold Enclosing.bounds (listed self.now) self.now.kept bounds.now → result ≡ least (λ k. nat_le enough (count_of side (Figures.chance (listed self.now) 0 k))) self.now.ceiling }
+    // The first kept level beside which the mix passes.
+    fn first_reached<F: Fn(Grains) -> bool>(
+        &self,
+        levels: &[u32],
+        bounds: &[Grains],
+        passes: F,
+    ) -> Found
+        requires places { (length levels.now ≡ self.now.places) × (self.now.shares.count * self.now.places ≤ length bounds.now) }
+        requires callable { F.IsAlwaysCallable passes }
+        ensures { (test : Grains → Bool) → AnswersBy (F.post passes) test → FirstOf (λ i. test (mix_beside self.now bounds.now i)) levels.now self.now.kept result }
     {
-        let mut i = 0;
+        let mut rest = levels[..self.kept].iter().enumerate();
         let found = loop {
-            if i >= self.kept {
+            let Some((i, level)) = rest.next() else {
                 break Found::Beyond;
+            };
+            if passes(self.chance_at(0, i + 1, bounds)) {
+                break Found::At(*level);
             }
-            let mix = self.chance_at(0, i + 1, bounds);
-            if side.count(mix) >= enough {
-                break Found::At(levels[i]);
-            }
-            i += 1;
         };
         found
     }
@@ -75,8 +58,8 @@ impl Book {
             return Err(Refusal::Confidence);
         }
         let enough = u64::from(confidence) * 1_000_000;
-        let low = self.first_reached(Side::Upper, enough, places.levels, places.bounds);
-        let high = self.first_reached(Side::Lower, enough, places.levels, places.bounds);
+        let low = self.first_reached(places.levels, places.bounds, |mix| mix.upper >= enough);
+        let high = self.first_reached(places.levels, places.bounds, |mix| mix.lower >= enough);
         Ok((low, high))
     }
 }

@@ -98,7 +98,7 @@ impl Book {
         if level > self.ceiling {
             return Err(Refusal::Level);
         }
-        let found = below(levels, self.kept, level + 1);
+        let found = below(&levels[..self.kept], level + 1);
         Ok(told::<R>(rows, self.places, scenario - 1, found))
     }
 
@@ -173,7 +173,7 @@ impl Book {
         if level > self.ceiling {
             return Err(Refusal::Level);
         }
-        let found = below(places.levels, self.kept, level + 1);
+        let found = below(&places.levels[..self.kept], level + 1);
         let told = self.chance_at(scenario, found, places.bounds);
         Ok((told.lower, told.upper))
     }

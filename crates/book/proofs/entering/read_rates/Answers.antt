@@ -1,4 +1,4 @@
-use Rattle.std.proofs.Common.{◌≡◌, ℕ, ◌<◌, ◌≤◌, not, List, [], ◌∷◌, ◌++◌, length, get_or, take, sym, ap, ◌∙◌, arith, length-set}
+use Rattle.std.proofs.Common.{rules, ◌≡◌, ℕ, ◌<◌, ◌≤◌, not, true, List, [], ◌∷◌, ◌++◌, length, get_or, take, sym, ap, ◌∙◌, arith, length-set}
 use Rattle.std.proofs.lemmas.List.{take_all, take_more, take_more_set, map_push}
 use Rattle.std.proofs.lemmas.Bool.{or_right, or_from, le-ltb, eq-eqb}
 use Rattle.reckoning.specs.declared.rate.Rate.{Rate}
@@ -8,16 +8,18 @@ use Rattle.book.specs.Some.{some}
 use Rattle.book.proofs.Somes.{some_at, none_more}
 use Rattle.book.proofs.entering.read_rates.Goals as goal
 
-pub returns-in_default : goal.returns-in_default
-returns-in_default c = or_right _ _ (some_at rate_wrong c.args.given.now c.loop-i.i 0 c.loop-i-test.true c.in_default.ensures)
+pub returns-in_err-rates : goal.returns-in_err-rates
+returns-in_err-rates c =
+    let some_wrong : some rate_wrong c.args.given.now ≡ true = some_at rate_wrong c.args.given.now c.loop-i.i 0 c.loop-i-test.true c.in_err-rates.ensures in
+    search (rules, or_right)
 
 pub loop-i-preserved : goal.loop-i-preserved
 loop-i-preserved c =
     let given = c.args.given.now in
     let i = c.loop-i.i in
-    let rate = c.in-Some.rate in
+    let rate = c.in_ok-rates.field-0 in
     let l : i < length given = c.loop-i-test.true in
-    let is = c.in-Some.ensures in
+    let is : rate.millionths ≡ get_or given i 0 = c.in_ok-rates.ensures in
     let small : get_or given i 0 ≤ 1000000 = omega (arith, rate.in_range) in
     let l8 : i < length c.loop-i.rates = omega (arith, c.loop-i.invariant.2) in
     let f = λ (r : Rate). r.millionths in (

@@ -1,35 +1,46 @@
-use Rattle.std.proofs.Common.{◌≡◌, leb, get_or, sym, refl, ap, ◌∙◌, arith, below_more}
-use Rattle.std.proofs.lemmas.Bool.{le-leb, lt-leb}
-use Rattle.reckoning.specs.declared.grains.Grains.{Grains}
-use Rattle.book.specs.declared.found.Found.TheVariants.{At, Beyond}
-use Rattle.book.specs.Reserved.{count_of, mix_beside, FirstOf}
-use Rattle.book.proofs.Founds.{first_is_least}
+use Rattle.std.proofs.Common.{◌≡◌, ℕ, ◌<◌, ◌≤◌, true, false, length, take, drop, sym, ap, ◌∙◌, subst, arith, below_more}
+use Rattle.std.specs.Iterator.Adapters.{enumerate_source, enumerate_count}
+use Rattle.std.specs.Slice.Iter.{iter_rest}
+use Rattle.std.proofs.lemmas.List.{length-take, length-drop, get_or-take}
+use Rattle.book.specs.Reserved.{mix_beside, FirstOf}
+use Rattle.book.proofs.Founds.{next_is}
 use Rattle.book.proofs.book.Book.first_reached.Goals as goal
+use Rattle.book.proofs.book.Book.first_reached.Goals.{in_default, in-Some+then-passes}
 
 pub loop-i-preserved : goal.loop-i-preserved
-loop-i-preserved c =
-    let side = c.args.side in
-    let same : c.count.result ≡ count_of side (mix_beside c.args.self.now c.args.bounds.now c.loop-i.i) = c.count.ensures ∙ ap (count_of side) c.chance_at-mix.ensures.value in
-    (omega arith, below_more _ _ c.loop-i.invariant.1 (ap (leb c.args.enough) (sym same) ∙ lt-leb c.args.enough c.count.result (omega arith)))
+loop-i-preserved g c =
+    let b = c.args.self.now in
+    let rows = c.args.bounds.now in
+    let front = take b.kept c.args.levels.now in
+    let n = enumerate_count c.loop-i.rest in
+    let steps = c.in-Some.ensures.steps in
+    let next = next_is front (iter_rest (enumerate_source c.next.new.self)) n c.in-Some.level.now (sym steps.0 ∙ c.loop-i.invariant.0) in (
+      next.2 ∙ ap (λ (k : ℕ). drop k front) (sym steps.2),
+      omega (arith, length-take b.kept c.args.levels.now),
+      λ test answers j l.
+          let here : false ≡ test (mix_beside b rows n) =
+          sym c.if-passes.false ∙ answers c.chance_at.result c.passes.result c.passes.ensures ∙ ap test c.chance_at.ensures.value ∙ ap (λ (k : ℕ). test (mix_beside b rows k)) steps.1 in
+          below_more (λ k. test (mix_beside b rows k) ≡ false) n (c.loop-i.invariant.2 test answers) (sym here) j (omega arith),
+    )
 
-pub returns-then-i-self : goal.returns-then-i-self
-returns-then-i-self c =
+pub returns : goal.returns
+returns g c = λ test answers.
     let b = c.args.self.now in
     let levels = c.args.levels.now in
     let rows = c.args.bounds.now in
-    let passes = λ (g : Grains). leb c.args.enough (count_of c.args.side g) in
-    let told : FirstOf (λ i. passes (mix_beside b rows i)) levels b.kept Beyond = λ j l. c.loop-i.invariant.1 j (omega arith) in
-    record { told = told; tells = λ held held_rows. first_is_least b levels rows held held_rows passes Beyond told }
-
-pub returns-then-count-enough : goal.returns-then-count-enough
-returns-then-count-enough c =
-    let b = c.args.self.now in
-    let levels = c.args.levels.now in
-    let rows = c.args.bounds.now in
-    let i = c.loop-i.i in
-    let side = c.args.side in
-    let passes = λ (g : Grains). leb c.args.enough (count_of side g) in
-    let same : c.count.result ≡ count_of side (mix_beside b rows i) = c.count.ensures ∙ ap (count_of side) c.chance_at-mix.ensures.value in
-    let told : FirstOf (λ i. passes (mix_beside b rows i)) levels b.kept (At (get_or levels i 0)) =
-    (i, omega arith, refl, ap (leb c.args.enough) (sym same) ∙ le-leb c.args.enough c.count.result (omega arith), c.loop-i.invariant.1) in
-    record { told = told; tells = λ held held_rows. first_is_least b levels rows held held_rows passes (At (get_or levels i 0)) told }
+    let front = take b.kept levels in
+    let n = enumerate_count c.loop-i.rest in
+    let First = FirstOf (λ i. test (mix_beside b rows i)) levels b.kept in
+    elim c.match-next.branch [
+      | in_default w ↦
+          let steps = w.in_default.ensures.steps in
+          let end : b.kept ≤ n = omega (arith, ap length c.loop-i.invariant.0, length-drop n front, length-take b.kept levels) in
+          subst First (sym w.found-is) (λ j l. c.loop-i.invariant.2 test answers j (omega arith))
+      | in-Some+then-passes w ↦
+          let steps = w.in-Some.ensures.steps in
+          let next = next_is front (iter_rest (enumerate_source c.next.new.self)) n w.in-Some.level.now (sym steps.0 ∙ c.loop-i.invariant.0) in
+          let inside : n < b.kept = omega (arith, length-take b.kept levels) in
+          let here : true ≡ test (mix_beside b rows n) =
+          sym w.if-passes.true ∙ answers w.chance_at.result w.passes.result w.passes.ensures ∙ ap test w.chance_at.ensures.value ∙ ap (λ (k : ℕ). test (mix_beside b rows k)) steps.1 in
+          subst First (sym w.found-is) (n, inside, sym (get_or-take b.kept levels n 0 inside) ∙ next.1, sym here, c.loop-i.invariant.2 test answers)
+    ]

@@ -1,9 +1,9 @@
-use Rattle.std.proofs.Common.{◌≡◌, ℕ, ◌*◌, leb, subst, rules}
-use Rattle.book.specs.Figures.{chance}
-use Rattle.book.specs.Least.{least}
+use Rattle.std.proofs.Common.{rules}
+use Rattle.reckoning.specs.declared.grains.Grains.{Grains}
 use Rattle.book.specs.Listed.{listed}
+use Rattle.book.specs.Pricing.{reaches}
 use Rattle.book.specs.Reserved.{mix_beside, FirstOf}
-use Rattle.book.proofs.Founds.{first_among}
+use Rattle.book.proofs.Founds.{first_among, first_is_least}
 use Rattle.book.proofs.book.Book.reserve.Goals as goal
 
 pub returns : goal.returns
@@ -14,18 +14,14 @@ returns g c =
     let rows = c.args.places.now.bounds.now in
     let low = c.first_reached-low.result in
     let high = c.first_reached-high.result in
-    let enough = c.from-enough.ensures in
-    let low_told = c.first_reached-low.ensures.told in
-    let high-told = c.first_reached-high.ensures.told in
+    let upper = λ (g : Grains). reaches c.args.confidence g.upper in
+    let lower = λ (g : Grains). reaches c.args.confidence g.lower in
+    let enough = c.from.ensures in
+    let low_told : FirstOf (λ i. upper (mix_beside b rows i)) levels b.kept low = c.first_reached-low.ensures upper (λ g r p. search rules) in
+    let high_told : FirstOf (λ i. lower (mix_beside b rows i)) levels b.kept high = c.first_reached-high.ensures lower (λ g r p. search rules) in
     record {
       declines = search rules;
-      range = (first_among _ levels b.kept low low_told, first_among _ levels b.kept high high-told);
-      told = (
-        subst (λ (n : ℕ). FirstOf (λ i. leb (n * 1000000) (mix_beside b rows i).upper) levels b.kept low) enough low_told,
-        subst (λ (n : ℕ). FirstOf (λ i. leb (n * 1000000) (mix_beside b rows i).lower) levels b.kept high) enough high-told,
-      );
-      tells = λ held. (
-        subst (λ (n : ℕ). low ≡ least (λ k. leb (n * 1000000) (chance p 0 k).upper) b.ceiling) enough (c.first_reached-low.ensures.tells held.levels held.bounds),
-        subst (λ (n : ℕ). high ≡ least (λ k. leb (n * 1000000) (chance p 0 k).lower) b.ceiling) enough (c.first_reached-high.ensures.tells held.levels held.bounds),
-      );
+      range = (first_among _ levels b.kept low low_told, first_among _ levels b.kept high high_told);
+      told = (low_told, high_told);
+      tells = λ held. (first_is_least b levels rows held.levels held.bounds upper low low_told, first_is_least b levels rows held.levels held.bounds lower high high_told);
     }
