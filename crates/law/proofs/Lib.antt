@@ -7,4 +7,3 @@ pub mod Truths
 pub mod Formed
 pub mod Tellings
 pub mod Runs
-pub mod Ones

@@ -4,14 +4,14 @@ use Rattle.std.proofs.lemmas.List.{take_more, take-take, length-take, length-tak
 use Rattle.reckoning.specs.Operations.{Operations}
 use Rattle.reckoning.specs.Outcomes.{Family}
 use Rattle.law.specs.declared.call.Call.{Call}
-use Rattle.law.specs.declared.call.Answer.{Answer}
 use Rattle.book.specs.Declines.{Handed}
 use Rattle.book.specs.Laid.{Places, State, RowsOutside, Outside, Holds}
 use Rattle.law.specs.Law.{TellsTruth, CarriedOut, Law}
 use Rattle.book.specs.Listed.{listed}
 use Rattle.book.specs.Merging.{row_of}
 use Rattle.book.specs.Plain.{Plain, scenarios, unopened, opened}
-use Rattle.law.specs.Runs.{declines_open, changed, unless, after_open, after, afters, number_of_answer, Right, count_kept, most_kept, Sound, One}
+use Rattle.book.specs.Refusals.{refusal_of}
+use Rattle.law.specs.Runs.{declines_open, changed, unless, after_open, after, afters, Told, Right, count_kept, most_kept, Sound, One}
 use Rattle.law.specs.Truth.{FiguresStand}
 use Rattle.law.proofs.Formed.{opened_sound, afters_sound, afters_shares, after_opened}
 use Rattle.book.proofs.Layouts.{kept_none}
@@ -78,28 +78,28 @@ module _ (h : Handed) where
     most_kept_more = subst (λ (cs : List Call). most_kept h p (take i calls) ≤ most_kept h p cs) (sym taken) (most_kept_front p (take i calls) (c ∷ []))
 
 -- ---- one call
-module _ {V : Type 0} (ops : Operations V) (h : Handed) (x y : State V) (c : Call) (a : Answer V) (one : One ops h x y c a) (held : Holds ops x.book x.places) where
+module _ {V : Type 0} (ops : Operations V) (h : Handed) (x y : State V) (c : Call) (a : Told V) (one : One ops h x y c a) (held : Holds ops x.book x.places) where
   pub one_list : listed y.book ≡ after h (listed x.book) c
   one_list =
-      subst (λ (d : Option ℕ). listed y.book ≡ unless d (listed x.book) (changed (listed x.book) c)) (one.right held).declined (told (number_of_answer a) refl)
+      subst (λ (d : Option ℕ). listed y.book ≡ unless d (listed x.book) (changed (listed x.book) c)) (one.right held).declined (told (refusal_of a) refl)
     where
-      told : (d : Option ℕ) → number_of_answer a ≡ d → listed y.book ≡ unless d (listed x.book) (changed (listed x.book) c)
+      told : (d : Option ℕ) → refusal_of a ≡ d → listed y.book ≡ unless d (listed x.book) (changed (listed x.book) c)
       told (Some n) e = ap (λ (z : State V). listed z.book) (one.unchanged n e)
       told None e = one.list e
 
   pub one_outside : Outside (scenarios (listed x.book)) h.levels (count_kept (listed y.book)) x.places y.places
-  one_outside = told (number_of_answer a) refl
+  one_outside = told (refusal_of a) refl
     where
-      told : (d : Option ℕ) → number_of_answer a ≡ d → Outside (scenarios (listed x.book)) h.levels (count_kept (listed y.book)) x.places y.places
+      told : (d : Option ℕ) → refusal_of a ≡ d → Outside (scenarios (listed x.book)) h.levels (count_kept (listed y.book)) x.places y.places
       told (Some n) e =
           subst (λ (z : State V). Outside (scenarios (listed x.book)) h.levels (count_kept (listed z.book)) x.places z.places) (sym (one.unchanged n e))
           (outside_same (scenarios (listed x.book)) h.levels (count_kept (listed x.book)) x.places)
       told None e =
           subst (λ (n : ℕ). Outside (scenarios (listed x.book)) h.levels n x.places y.places) (one.again held).levels.count (one.outside e)
 
-right_same : {V : Type 0} (ops : Operations V) (h : Handed) (p q : Plain) (c d : Call) (a b : Answer V) → p ≡ q → c ≡ d → a ≡ b → Right ops h p c a → Right ops h q d b
+right_same : {V : Type 0} (ops : Operations V) (h : Handed) (p q : Plain) (c d : Call) (a b : Told V) → p ≡ q → c ≡ d → a ≡ b → Right ops h p c a → Right ops h q d b
 right_same {V} ops h p q c d a b list call answer r =
-    subst (λ (z : Answer V). Right ops h q d z) answer (subst (λ (z : Call). Right ops h q z a) call (subst (λ (z : Plain). Right ops h z c a) list r))
+    subst (λ (z : Told V). Right ops h q d z) answer (subst (λ (z : Call). Right ops h q z a) call (subst (λ (z : Plain). Right ops h z c a) list r))
 
 -- ---- a run
 module _ {V : Type 0} (ops : Operations V) (stands : V → List ℕ → Family → Type 0) (means : FiguresStand ops stands) (h : Handed) where
@@ -107,7 +107,7 @@ module _ {V : Type 0} (ops : Operations V) (stands : V → List ℕ → Family �
   always_true p cs sound = sound_tells_truth ops stands means h (afters h p cs) (afters_sound h p cs sound)
 
   -- before any call
-  pub carried_none : (p : Plain) (x : State V) (old : List (Answer V)) → Sound h p → listed x.book ≡ p → Holds ops x.book x.places → CarriedOut ops stands h p [] x x old old
+  pub carried_none : (p : Plain) (x : State V) (old : List (Told V)) → Sound h p → listed x.book ≡ p → Holds ops x.book x.places → CarriedOut ops stands h p [] x x old old
   carried_none p x old sound list held = record {
     each_right = λ i c a l. absurd (omega arith);
     always_true = λ i l. always_true p (take i []) sound;
@@ -118,7 +118,7 @@ module _ {V : Type 0} (ops : Operations V) (stands : V → List ℕ → Family �
   }
 
   -- from an earlier state: places outside n levels are those that the run found, and the list keeps as many
-  carried_from : (p : Plain) (calls : List Call) (x y z : State V) (old new : List (Answer V)) (n : ℕ) → n ≤ count_kept p → Outside (scenarios p) h.levels n x.places y.places →
+  carried_from : (p : Plain) (calls : List Call) (x y z : State V) (old new : List (Told V)) (n : ℕ) → n ≤ count_kept p → Outside (scenarios p) h.levels n x.places y.places →
       CarriedOut ops stands h p calls y z old new → CarriedOut ops stands h p calls x z old new
   carried_from p calls x y z old new n few outside run = record {
     each_right = run.each_right;
@@ -133,7 +133,7 @@ module _ {V : Type 0} (ops : Operations V) (stands : V → List ℕ → Family �
   }
 
   -- from the state before an accepted opening
-  pub law_opened : (ceiling : ℕ) (shares : List ℕ) (calls : List Call) (x y z : State V) (old new : List (Answer V)) → declines_open h ceiling shares ≡ None →
+  pub law_opened : (ceiling : ℕ) (shares : List ℕ) (calls : List Call) (x y z : State V) (old new : List (Told V)) → declines_open h ceiling shares ≡ None →
       listed y.book ≡ opened h.levels ceiling shares → Outside (length shares) h.levels 1 x.places y.places →
       CarriedOut ops stands h (listed y.book) calls y z old new → CarriedOut ops stands h (after_open h unopened ceiling shares) calls x z old new
   law_opened ceiling shares calls x y z old new accepted list outside run =
@@ -142,10 +142,10 @@ module _ {V : Type 0} (ops : Operations V) (stands : V → List ℕ → Family �
       (carried_from (opened h.levels ceiling shares) calls x y z old new 1 one outside (subst (λ (p : Plain). CarriedOut ops stands h p calls y z old new) list run))
 
   -- one call more, at place i
-  module _ (p : Plain) (sound : Sound h p) (calls : List Call) (x y z : State V) (old new : List (Answer V)) (i : ℕ) (c : Call) (a : Answer V)
+  module _ (p : Plain) (sound : Sound h p) (calls : List Call) (x y z : State V) (old new : List (Told V)) (i : ℕ) (c : Call) (a : Told V)
       (l : i < length calls) (room : i < length new) (at : c ≡ get_or calls i c)
       (law : CarriedOut ops stands h p (take i calls) x y old new) (one : One ops h y z c a) where
-    right_more : (k : ℕ) (d : Call) (b : Answer V) → k < i + 1 → Right ops h (afters h p (take k (take (i + 1) calls))) (get_or (take (i + 1) calls) k d) (get_or (set new i a) k b)
+    right_more : (k : ℕ) (d : Call) (b : Told V) → k < i + 1 → Right ops h (afters h p (take k (take (i + 1) calls))) (get_or (take (i + 1) calls) k d) (get_or (set new i a) k b)
     right_more k d b within =
         below_more (λ j. Right ops h (afters h p (take j (take (i + 1) calls))) (get_or (take (i + 1) calls) j d) (get_or (set new i a) j b)) i
         (λ j less.
@@ -197,14 +197,14 @@ module _ {V : Type 0} (ops : Operations V) (stands : V → List ℕ → Family �
     }
 
   -- the same where the call was handed as many places
-  pub law_step : (p : Plain) → Sound h p → (calls : List Call) (x y z : State V) (old new : List (Answer V)) (i : ℕ) (c : Call) (a : Answer V) →
+  pub law_step : (p : Plain) → Sound h p → (calls : List Call) (x y z : State V) (old new : List (Told V)) (i : ℕ) (c : Call) (a : Told V) →
       i < length calls → i < length new → c ≡ get_or calls i c → CarriedOut ops stands h p (take i calls) x y old new → (k : Handed) → k ≡ h → One ops k y z c a →
       CarriedOut ops stands h p (take (i + 1) calls) x z old (set new i a)
   law_step p sound calls x y z old new i c a l room at law k same one = law_more p sound calls x y z old new i c a l room at law (subst (λ (q : Handed). One ops q y z c a) same one)
 
 -- ---- the law
 -- an accepted opening, and then calls that were handed as many places
-pub law_run : {V : Type 0} (ops : Operations V) (stands : V → List ℕ → Family → Type 0) (means : FiguresStand ops stands) (h : Handed) (ceiling : ℕ) (shares : List ℕ) (calls : List Call) (x y z : State V) (old new : List (Answer V)) →
+pub law_run : {V : Type 0} (ops : Operations V) (stands : V → List ℕ → Family → Type 0) (means : FiguresStand ops stands) (h : Handed) (ceiling : ℕ) (shares : List ℕ) (calls : List Call) (x y z : State V) (old new : List (Told V)) →
     None ≡ declines_open h ceiling shares → listed y.book ≡ opened h.levels ceiling shares → Holds ops y.book y.places → Outside (length shares) h.levels 1 x.places y.places →
     (k : Handed) → k ≡ h → (Sound k (listed y.book) → Holds ops y.book y.places → CarriedOut ops stands k (listed y.book) calls y z old new) →
     Law ops stands h ceiling shares None calls x z old new

@@ -17,7 +17,7 @@ use Rattle.book.specs.Laid.{State, Holds, Outside}
 use Rattle.book.specs.Least.{NotAbove}
 use Rattle.book.specs.Listed.{listed}
 use Rattle.book.specs.Plain.{Plain, size, scenarios, rates, unopened}
-use Rattle.law.specs.Runs.{declines, declines_open, after_open, afters, answer, Right, most_kept}
+use Rattle.law.specs.Runs.{declines, declines_open, after_open, afters, answer, Told, Right, most_kept}
 use Rattle.law.specs.Truth as Truth
 use Rattle.law.specs.Truth.{Inside, Confidence, Near}
 
@@ -55,9 +55,9 @@ pub record TellsTruth {V : Type 0} (ops : Operations V) (stands : V → List ℕ
 
 -- ---- a run
 -- calls carried out in turn on a book of the list p: x is the state before them and y the state after them, old and new are the places of the answers
-pub record CarriedOut {V : Type 0} (ops : Operations V) (stands : V → List ℕ → Family → Type 0) (h : Handed) (p : Plain) (calls : List Call) (x y : State V) (old new : List (Answer V)) : Type 0 where
+pub record CarriedOut {V : Type 0} (ops : Operations V) (stands : V → List ℕ → Family → Type 0) (h : Handed) (p : Plain) (calls : List Call) (x y : State V) (old new : List (Told V)) : Type 0 where
   -- each call is declined exactly when the list as it stood before the call declines it, and by that number; an accepted one answers what is defined for that list
-  pub each_right : (i : ℕ) (c : Call) (a : Answer V) → i < length calls → Right ops h (afters h p (take i calls)) (slice_index_or calls i c) (slice_index_or new i a)
+  pub each_right : (i : ℕ) (c : Call) (a : Told V) → i < length calls → Right ops h (afters h p (take i calls)) (slice_index_or calls i c) (slice_index_or new i a)
   -- after the opening and after every call, accepted or declined, what calls tell of the list is true to its outcomes
   pub always_true : (i : ℕ) → i ≤ length calls → TellsTruth ops stands h (afters h p (take i calls))
   -- at the end the book is the list after all calls, and the places hold what it says
@@ -69,7 +69,7 @@ pub record CarriedOut {V : Type 0} (ops : Operations V) (stands : V → List ℕ
   pub rest : drop (length calls) new ≡ drop (length calls) old
 
 -- the opening with this ceiling and these shares is declined by `refusal`, or accepted and then the calls are carried out
-pub record Law {V : Type 0} (ops : Operations V) (stands : V → List ℕ → Family → Type 0) (h : Handed) (ceiling : ℕ) (shares : List ℕ) (refusal : Option ℕ) (calls : List Call) (x y : State V) (old new : List (Answer V)) : Type 0 where
+pub record Law {V : Type 0} (ops : Operations V) (stands : V → List ℕ → Family → Type 0) (h : Handed) (ceiling : ℕ) (shares : List ℕ) (refusal : Option ℕ) (calls : List Call) (x y : State V) (old new : List (Told V)) : Type 0 where
   -- it is declined exactly when its sentences decline it, and by that number
   pub opening : refusal ≡ declines_open h ceiling shares
   -- declined, it leaves book, places and answers as they were

@@ -1,11 +1,11 @@
 -- The plain list under calls: when it declines one, what it answers, what is left of it.
-use Rattle.std.specs.Prelude.{◌≡◌, ℕ, max, false, List, [], ◌∷◌, length, Some, None, Ok, Err, Option, Result}
+use Rattle.std.specs.Prelude.{◌≡◌, ℕ, max, false, List, [], ◌∷◌, length, Some, None, Ok, Option, Result}
 use Rattle.reckoning.specs.Enclosing.{bounds}
 use Rattle.reckoning.specs.Operations.{Operations}
 use Rattle.law.specs.declared.call.Call.{Call}
 use Rattle.law.specs.declared.call.Call.TheVariants.{Enter, ReRate, Strike, BoundsAt, ValueAt, ChanceAt, ReserveFor, LayerOf}
 use Rattle.law.specs.declared.call.Answer.{Answer}
-use Rattle.law.specs.declared.call.Answer.TheVariants.{Done, Bounds, Value, Chance, Reserve, Layer, Refused}
+use Rattle.law.specs.declared.call.Answer.TheVariants.{Done, Bounds, Value, Chance, Reserve, Layer}
 use Rattle.book.specs.declared.refusal.Refusal.{Refusal}
 use Rattle.book.specs.Declines.{Handed, places_wrong, open_sentences, enter_early, enter_sentences, rerate_sentences, strike_sentences, value_sentences, chance_sentences, reserve_sentences, layer_sentences}
 use Rattle.book.specs.Figures.{chance}
@@ -14,7 +14,7 @@ use Rattle.book.specs.Levels.{kept}
 use Rattle.book.specs.Listed.{listed}
 use Rattle.book.specs.Plain.{Plain, scenarios, losses, entry, opened, with_entry, with_entries, without, re_rated}
 use Rattle.book.specs.Pricing.{reserve_low, reserve_high, layer_low, layer_high}
-use Rattle.book.specs.Refusals.{number_of, Sentences, first, FreeOf}
+use Rattle.book.specs.Refusals.{refusal_of, Sentences, first, FreeOf}
 use Rattle.book.specs.Values.{value}
 use Rattle.law.specs.WellFormed.{WellFormed}
 
@@ -74,25 +74,14 @@ answer ops p (ChanceAt s k) = Chance (chance p s k).lower (chance p s k).upper
 answer ops p (ReserveFor c) = Reserve (reserve_low p c) (reserve_high p c)
 answer ops p (LayerOf d t) = Layer (layer_low p d t) (layer_high p d t)
 
--- the number of a refusal, none of any other answer
-abbrev pub number_of_answer : {V : Type 0} → Answer V → Option ℕ
-number_of_answer Done = None
-number_of_answer (Bounds g) = None
-number_of_answer (Value v) = None
-number_of_answer (Chance a b) = None
-number_of_answer (Reserve a b) = None
-number_of_answer (Layer a b) = None
-number_of_answer (Refused e) = Some (number_of e)
-
--- a call's result as an answer: a refusal, or what `told` makes of what it tells
-abbrev pub answered : {T V : Type 0} → (T → Answer V) → Result T Refusal → Answer V
-answered told (Ok x) = told x
-answered told (Err e) = Refused e
+-- what comes of a call: a refusal, or an answer
+abbrev pub Told : Type 0 → Type 0
+Told V = Result (Answer V) Refusal
 
 -- a call answers rightly: declined exactly when the list declines it, by that number; accepted, it answers what is defined for the list
-pub record Right {V : Type 0} (ops : Operations V) (h : Handed) (p : Plain) (c : Call) (a : Answer V) : Type 0 where
-  pub declined : number_of_answer a ≡ declines h p c
-  pub answered : number_of_answer a ≡ None → a ≡ answer ops p c
+pub record Right {V : Type 0} (ops : Operations V) (h : Handed) (p : Plain) (c : Call) (a : Told V) : Type 0 where
+  pub declined : refusal_of a ≡ declines h p c
+  pub answered : refusal_of a ≡ None → a ≡ Ok (answer ops p c)
 
 -- how many levels the list keeps, and the most that it keeps at any time while calls are made in turn
 abbrev pub count_kept : Plain → ℕ
@@ -119,12 +108,12 @@ DeclinedAs h p (ReserveFor c) r = r ≡ declines h p (ReserveFor c)
 DeclinedAs h p (LayerOf d t) r = r ≡ declines h p (LayerOf d t)
 
 -- what one call does to a book and its places, x before it and y after it
-pub record One {V : Type 0} (ops : Operations V) (h : Handed) (x y : State V) (c : Call) (a : Answer V) : Type 0 where
+pub record One {V : Type 0} (ops : Operations V) (h : Handed) (x y : State V) (c : Call) (a : Told V) : Type 0 where
   -- declined, it leaves everything as it was
-  pub unchanged : (n : ℕ) → number_of_answer a ≡ Some n → y ≡ x
+  pub unchanged : (n : ℕ) → refusal_of a ≡ Some n → y ≡ x
   -- accepted, it leaves the list that the call makes, and no other place written than those of the kept levels
-  pub list : number_of_answer a ≡ None → listed y.book ≡ changed (listed x.book) c
-  pub outside : number_of_answer a ≡ None → Outside (scenarios (listed x.book)) h.levels y.book.kept x.places y.places
+  pub list : refusal_of a ≡ None → listed y.book ≡ changed (listed x.book) c
+  pub outside : refusal_of a ≡ None → Outside (scenarios (listed x.book)) h.levels y.book.kept x.places y.places
   -- where the places hold what the book says, it answers rightly, and they do so again
   pub right : Holds ops x.book x.places → Right ops h (listed x.book) c a
   pub again : Holds ops x.book x.places → Holds ops y.book y.places

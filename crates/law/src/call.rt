@@ -1,6 +1,5 @@
 // What a run is made of: calls on an opened book, and their answers.
 use book::found::Found;
-use book::refusal::Refusal;
 use reckoning::grains::Grains;
 
 // A call with its arguments; all calls of a run are lent the same places.
@@ -24,7 +23,7 @@ pub enum Call<'a> {
     LayerOf(u32, u32),
 }
 
-// What a call answers.
+// What an accepted call answers.
 #[derive(Clone, Copy, Debug, PartialEq, Eq)]
 pub enum Answer<V> {
     // enter, re-rate and strike are carried out
@@ -34,5 +33,4 @@ pub enum Answer<V> {
     Chance(u64, u64),
     Reserve(Found, Found),
     Layer(u64, u64),
-    Refused(Refusal),
 }

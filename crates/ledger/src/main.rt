@@ -4,41 +4,36 @@
 mod saying;
 mod script;
 
-use anyhow::anyhow;
 use book::book::Book;
+use book::refusal::Refusal;
 use law::call::{Answer, Call};
 use law::running::run;
 use reckoning::claims::Claims;
 use reckoning::grains::Grains;
-use script::{Script, read_script};
-use scripts::input::{read_script_text, say_fault};
+use script::{Halt, Script, read_script};
+use scripts::input::{end_at, read_script_text};
 use std::alloc::{AllocError, Global};
 use std::io::Write;
 
+// The error in which a script ends that is none.
+const NO_SCRIPT: &str = "the script is no script";
+
 fn main(rt: HostRuntime) -> anyhow::Result<()> {
-    match carry_out(&rt) {
-        Ok(true) => Ok(()),
-        Ok(false) => Err(anyhow!("the script is no script")),
-        Err(wrong) => Err(wrong),
-    }
+    carry_out(&rt)
 }
 
-// Prints the answers, or what is wrong with the script; false where nothing was run.
-fn carry_out(rt: &HostRuntime) -> anyhow::Result<bool> {
+// Prints the answers, or what is wrong with the script.
+fn carry_out(rt: &HostRuntime) -> anyhow::Result<()> {
     let heap = rt.alloc();
-    let Some(text) = read_script_text(rt)? else {
-        return Ok(false);
-    };
-    match read_script(heap, text.as_str())? {
+    let text = read_script_text(rt, NO_SCRIPT)?;
+    match read_script(heap, text.as_str()) {
         Ok(script) => {
             let told = answers(heap, &script)?;
             rt.stdout().write_all(&told[..])?;
-            Ok(true)
+            Ok(())
         }
-        Err(fault) => {
-            say_fault(rt, fault.line, fault.what)?;
-            Ok(false)
-        }
+        Err(Halt::NoScript(wrong)) => end_at(rt, &wrong, NO_SCRIPT),
+        Err(Halt::Memory(e)) => Err(e.into()),
     }
 }
 
@@ -49,7 +44,9 @@ fn answers(heap: Global, script: &Script) -> Result<Vec<u8>, AllocError> {
     let mut bounds: Vec<Grains> = vec![in heap; Grains { lower: 0, upper: 0 }; script.bounds]?;
     let mut values: Vec<Option<u16>> = vec![in heap; None; script.claims]?;
     let calls: Vec<Call> = script.calls(heap)?;
-    let mut told: Vec<Answer<Option<u16>>> = vec![in heap; Answer::Done; calls.len()]?;
+    let mut told: Vec<Result<Answer<Option<u16>>, Refusal>> = vec![in heap; Ok(
+        Answer::Done
+    ); calls.len()]?;
     let opened = run::<Claims>(
         &mut book,
         script.ceiling,

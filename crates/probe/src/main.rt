@@ -1,36 +1,28 @@
 // Makes single calls on a book, each with its own number of places, from a script on standard input; prints one answer a line.
 #![tactic(auto)]
 
-use anyhow::anyhow;
 use probing::running::run_script;
-use scripts::input::{read_script_text, say_fault};
+use scripts::input::{Fault, end_at, read_script_text};
 use std::io::Write;
 
+// The error in which a script ends that has a line which is no call.
+const NO_CALL: &str = "a line is no call";
+
 fn main(rt: HostRuntime) -> anyhow::Result<()> {
-    match carry_out(&rt) {
-        Ok(true) => Ok(()),
-        Ok(false) => Err(anyhow!("a line is no call")),
-        Err(wrong) => Err(wrong),
-    }
+    carry_out(&rt)
 }
 
-// Prints the answers, and what is wrong with the first line that is no call; false where there is one.
-fn carry_out(rt: &HostRuntime) -> anyhow::Result<bool> {
-    let heap = rt.alloc();
-    let Some(script) = read_script_text(rt)? else {
-        return Ok(false);
-    };
+// Prints the answers, and what is wrong with the first line that is no call.
+fn carry_out(rt: &HostRuntime) -> anyhow::Result<()> {
+    let script = read_script_text(rt, NO_CALL)?;
     if script.is_empty() {
-        say_fault(rt, 1, "there is no script")?;
-        return Ok(false);
+        let what = "there is no script";
+        return end_at(rt, &Fault { line: 1, what }, NO_CALL);
     }
-    let told = run_script(heap, script.as_str())?;
+    let told = run_script(rt.alloc(), script.as_str())?;
     rt.stdout().write_all(&told.text[..])?;
     match told.fault {
-        Some(fault) => {
-            say_fault(rt, fault.line, fault.wrong.text())?;
-            Ok(false)
-        }
-        None => Ok(true),
+        Some(fault) => end_at(rt, &fault, NO_CALL),
+        None => Ok(()),
     }
 }

@@ -1,13 +1,17 @@
 // The answer to a line.
-use crate::hex::{bytes_of, put_hex};
-use crate::lending::Probe;
-use crate::words::{handed_by, numbers_past, place_of, word_at, word_count};
+use crate::bytes::{bytes_of, word_of};
+use crate::lending::{Handed, Lent, Probe};
+use crate::words::{number_at, word_at, word_count};
 use crate::wrong::{Halt, Wrong};
 use law::call::Answer;
+use law::running::step;
+use reckoning::claims::Claims;
 use rendering::writing::write;
-use scripts::saying::{answer, refused};
-use scripts::verb::{Verb, call_of, verb_of};
+use scripts::numbers::read_numbers;
+use scripts::saying::{Refused, Said};
+use scripts::verb::{call_of, verb_of};
 use std::alloc::{AllocError, Global};
+use tariff::reading::read;
 use tree::counting::count;
 use tree::pair::Pair;
 
@@ -20,11 +24,11 @@ const UNWRITTEN: u8 = 0xaa;
 // The pairs of loss and rate that numbers make two by two.
 fn pairs_of(heap: Global, numbers: &[u32]) -> Result<Vec<Pair>, AllocError> {
     let mut pairs = Vec::new(heap);
-    for two in numbers.chunks(2) {
-        if two.len() == 2 {
+    for two in numbers.chunks_exact(2) {
+        if let [loss, rate] = two {
             pairs.push(Pair {
-                loss: two[0],
-                rate: two[1],
+                loss: *loss,
+                rate: *rate,
             })?;
         }
     }
@@ -33,35 +37,37 @@ fn pairs_of(heap: Global, numbers: &[u32]) -> Result<Vec<Pair>, AllocError> {
 
 // Answers a line `count level loss rate ..`.
 fn count_line(heap: Global, line: &str) -> Result<String, Halt> {
-    let numbers = numbers_past(heap, line, 1)?;
-    let n = numbers.len();
-    if n % 2 != 1 {
+    let numbers = read_numbers(heap, line, 1)?;
+    let [level, ways @ ..] = &numbers[..] else {
+        return Err(Halt::NoCall(Wrong::Count));
+    };
+    if ways.len() % 2 != 0 {
         return Err(Halt::NoCall(Wrong::Count));
     }
-    let pairs = pairs_of(heap, &numbers[1..])?;
-    match count(&pairs[..], numbers[0]) {
+    let pairs = pairs_of(heap, ways)?;
+    match count(&pairs[..], *level) {
         Ok(outcomes) => Ok(format!(in heap; "{outcomes}")?),
-        Err(refusal) => Ok(refused(heap, refusal.number())?),
-    }
-}
-
-// What is said of an answer; without one there were not so many places.
-fn said(heap: Global, told: Option<Answer<Option<u16>>>) -> Result<String, Halt> {
-    match told {
-        Some(told) => Ok(answer(heap, told)?),
-        None => Err(Halt::NoCall(Wrong::Places)),
+        Err(refusal) => Ok(format!(in heap; "{}", Refused(refusal.number()))?),
     }
 }
 
 impl Probe {
     // Answers a line `open L NB NC ceiling share..`.
     fn open_line(&mut self, heap: Global, line: &str) -> Result<String, Halt> {
-        let handed = handed_by(line)?;
-        let numbers = numbers_past(heap, line, 4)?;
-        if numbers.is_empty() {
+        let handed = Handed::by(line)?;
+        let numbers = read_numbers(heap, line, 4)?;
+        let [ceiling, shares @ ..] = &numbers[..] else {
             return Err(Halt::NoCall(Wrong::Count));
-        }
-        said(heap, self.open(handed, numbers[0], &numbers[1..]))
+        };
+        let Lent {
+            levels,
+            bounds,
+            claims,
+        } = self.places.lend(handed)?;
+        let told = self
+            .book
+            .open::<Claims>(*ceiling, shares, levels, bounds, claims);
+        Ok(format!(in heap; "{}", Said(told.map(|_| Answer::Done)))?)
     }
 
     // Answers the line of a call on the opened book.
@@ -69,51 +75,52 @@ impl Probe {
         let Some(verb) = verb_of(word_at(line, 0), word_at(line, 4)) else {
             return Err(Halt::NoCall(Wrong::Verb));
         };
-        let handed = handed_by(line)?;
-        let skip = match verb {
-            Verb::Bounds | Verb::Claims => 5,
-            _ => 4,
-        };
-        let numbers = numbers_past(heap, line, skip)?;
+        let handed = Handed::by(line)?;
+        let numbers = read_numbers(heap, line, verb.words() + 3)?;
         let Some(call) = call_of(verb, &numbers[..]) else {
             return Err(Halt::NoCall(Wrong::Count));
         };
-        said(heap, self.call(handed, call))
+        let Lent {
+            levels,
+            bounds,
+            claims,
+        } = self.places.lend(handed)?;
+        let told = step::<Claims>(&mut self.book, call, levels, bounds, claims);
+        Ok(format!(in heap; "{}", Said(told))?)
     }
 
     // Answers a line `read L NB NC HEX`.
     fn read_line(&mut self, heap: Global, line: &str) -> Result<String, Halt> {
-        let handed = handed_by(line)?;
-        let Some(file) = bytes_of(heap, word_at(line, 4))? else {
-            return Err(Halt::NoCall(Wrong::Bytes));
-        };
-        match self.read(handed, &file[..]) {
-            Some(Ok(_)) => Ok(format!(in heap; "ok")?),
-            Some(Err(fault)) => {
-                let number = fault.number();
+        let handed = Handed::by(line)?;
+        let file = bytes_of(heap, word_at(line, 4))?;
+        let Lent {
+            levels,
+            bounds,
+            claims,
+        } = self.places.lend(handed)?;
+        match read::<Claims>(&mut self.book, &file[..], levels, bounds, claims) {
+            Ok(_) => Ok(format!(in heap; "ok")?),
+            Err(fault) => {
+                let refused = Refused(fault.number());
                 let place = fault.place();
-                Ok(format!(in heap; "refused {number} at {place}")?)
+                Ok(format!(in heap; "{refused} at {place}")?)
             }
-            None => Err(Halt::NoCall(Wrong::Places)),
         }
     }
 
     // Answers a line `write CAP`.
     fn write_line(&self, heap: Global, line: &str) -> Result<String, Halt> {
-        let room = place_of(word_at(line, 1))?;
+        let room: usize = number_at(line, 1)?;
         if room > BYTES {
             return Err(Halt::NoCall(Wrong::Room));
         }
         let mut bytes: Vec<u8> = vec![in heap; UNWRITTEN; room]?;
-        let mut text = match write(&self.book, &mut bytes[..]) {
-            Ok(length) => format!(in heap; "{length} ")?,
-            Err(few) => {
-                let number = few.number();
-                format!(in heap; "refused {number} ")?
-            }
-        };
-        put_hex(&mut text, &bytes[..])?;
-        Ok(text)
+        let written = write(&self.book, &mut bytes[..]);
+        let file = word_of(heap, &bytes[..])?;
+        match written {
+            Ok(length) => Ok(format!(in heap; "{length} {file}")?),
+            Err(few) => Ok(format!(in heap; "{} {file}", Refused(u32::from(few.number())))?),
+        }
     }
 
     // Answers a line, whose words after the verb are right in number.
@@ -123,9 +130,9 @@ impl Probe {
             "read" => self.read_line(heap, line),
             "write" => self.write_line(heap, line),
             "count" => count_line(heap, line),
-            "levels" | "bounds" | "claims" => self.say_places(heap, line),
+            "levels" | "bounds" | "claims" => self.places.say(heap, line),
             "poke" => {
-                self.poke(line)?;
+                self.places.poke(line)?;
                 Ok(format!(in heap; "ok")?)
             }
             _ => self.call_line(heap, line),

@@ -1,13 +1,9 @@
-// A book with places beside it, and the calls that are handed some of them.
-use crate::words::Handed;
+// A book with places beside it, of which each call is handed some.
+use crate::words::number_at;
+use crate::wrong::Wrong;
 use book::book::Book;
-use law::call::{Answer, Call};
-use law::running::step;
-use reckoning::claims::Claims;
 use reckoning::grains::Grains;
 use std::alloc::{AllocError, Global};
-use tariff::reading::{FileRead, read};
-use tariff::refusal::FileFault;
 
 // How many level places there are: some more than a book can be handed.
 const LEVELS: usize = 65_540;
@@ -19,17 +15,59 @@ const VALUES: usize = 524_300;
 #[derive(Drop)]
 pub(crate) struct Probe {
     pub(crate) book: Book,
+    pub(crate) places: Places,
+}
+
+// Level places, and value places of each reckoning.
+#[derive(Drop)]
+pub(crate) struct Places {
     pub(crate) levels: Vec<u32>,
     pub(crate) bounds: Vec<Grains>,
     pub(crate) claims: Vec<Option<u16>>,
 }
 
-// The first places, or none where there are not so many.
-fn front<T>(places: &mut [T], count: usize) -> Option<&mut [T]> {
-    if count <= places.len() {
-        Some(&mut places[0..count])
-    } else {
-        None
+// The places that one call is handed.
+#[derive(Drop)]
+pub(crate) struct Lent<'a> {
+    pub(crate) levels: &'a mut [u32],
+    pub(crate) bounds: &'a mut [Grains],
+    pub(crate) claims: &'a mut [Option<u16>],
+}
+
+// How many places a line hands over, by the three words after the first.
+#[derive(Clone, Copy)]
+pub(crate) struct Handed {
+    levels: usize,
+    bounds: usize,
+    claims: usize,
+}
+
+impl Handed {
+    pub(crate) fn by(line: &str) -> Result<Handed, Wrong> {
+        let levels = number_at(line, 1)?;
+        let bounds = number_at(line, 2)?;
+        let claims = number_at(line, 3)?;
+        Ok(Handed {
+            levels,
+            bounds,
+            claims,
+        })
+    }
+}
+
+// The first places, if there are so many.
+fn front<T>(places: &mut [T], count: usize) -> Result<&mut [T], Wrong> {
+    places.get_mut(..count).ok_or(Wrong::Places)
+}
+
+impl Places {
+    // The first places of each kind.
+    pub(crate) fn lend(&mut self, handed: Handed) -> Result<Lent<'_>, Wrong> {
+        Ok(Lent {
+            levels: front(&mut self.levels[..], handed.levels)?,
+            bounds: front(&mut self.bounds[..], handed.bounds)?,
+            claims: front(&mut self.claims[..], handed.claims)?,
+        })
     }
 }
 
@@ -40,50 +78,11 @@ impl Probe {
         let levels: Vec<u32> = vec![in heap; u32::MAX; LEVELS]?;
         let bounds: Vec<Grains> = vec![in heap; Grains { lower: 0, upper: 0 }; VALUES]?;
         let claims: Vec<Option<u16>> = vec![in heap; None; VALUES]?;
-        Ok(Probe {
-            book,
+        let places = Places {
             levels,
             bounds,
             claims,
-        })
-    }
-
-    // Opens the book; none where there are not so many places.
-    pub(crate) fn open(
-        &mut self,
-        handed: Handed,
-        ceiling: u32,
-        shares: &[u32],
-    ) -> Option<Answer<Option<u16>>> {
-        let levels = front(self.levels.as_mut_slice(), handed.levels)?;
-        let bounds = front(self.bounds.as_mut_slice(), handed.bounds)?;
-        let claims = front(self.claims.as_mut_slice(), handed.claims)?;
-        match self
-            .book
-            .open::<Claims>(ceiling, shares, levels, bounds, claims)
-        {
-            Ok(_) => Some(Answer::Done),
-            Err(refusal) => Some(Answer::Refused(refusal)),
-        }
-    }
-
-    // Carries out a call on the opened book; none where there are not so many places.
-    pub(crate) fn call(&mut self, handed: Handed, call: Call) -> Option<Answer<Option<u16>>> {
-        let levels = front(self.levels.as_mut_slice(), handed.levels)?;
-        let bounds = front(self.bounds.as_mut_slice(), handed.bounds)?;
-        let claims = front(self.claims.as_mut_slice(), handed.claims)?;
-        Some(step::<Claims>(&mut self.book, call, levels, bounds, claims))
-    }
-
-    // Reads a file; none where there are not so many places.
-    pub(crate) fn read(
-        &mut self,
-        handed: Handed,
-        file: &[u8],
-    ) -> Option<Result<FileRead, FileFault>> {
-        let levels = front(self.levels.as_mut_slice(), handed.levels)?;
-        let bounds = front(self.bounds.as_mut_slice(), handed.bounds)?;
-        let claims = front(self.claims.as_mut_slice(), handed.claims)?;
-        Some(read::<Claims>(&mut self.book, file, levels, bounds, claims))
+        };
+        Ok(Probe { book, places })
     }
 }

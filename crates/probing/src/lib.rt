@@ -2,7 +2,7 @@
 #![tactic(auto)]
 
 mod asking;
-mod hex;
+mod bytes;
 mod lending;
 mod places;
 pub mod running;

@@ -1,8 +1,13 @@
 // Why a line gets no answer.
 ghost use Rattle.std.specs.Prelude.{◌≡◌};
+ghost use Rattle.probing.specs.declared.wrong.Wrong.TheVariants.{Number};
 ghost use Rattle.probing.specs.declared.wrong.Halt.TheVariants.{NoCall, Memory};
 
+use hex::FromHexError;
+use scripts::numbers::NoNumbers;
 use std::alloc::AllocError;
+use std::fmt;
+use std::num::ParseIntError;
 
 // What is wrong with a line that is no call.
 #[derive(Clone, Copy, Debug, PartialEq, Drop)]
@@ -21,17 +26,24 @@ pub enum Wrong {
     Room,
 }
 
-impl Wrong {
-    // The fault in words.
-    pub fn text(self) -> &'static str {
-        match self {
+impl fmt::Display for Wrong {
+    fn fmt<W: fmt::Write>(&self, f: &mut fmt::Formatter<W>) -> fmt::Result {
+        f.write_str(match self {
             Wrong::Verb => "there is no such call",
             Wrong::Number => "a word is no number, or is too large a number",
             Wrong::Count => "the words are too few or too many",
             Wrong::Places => "there are 65540 level places, and 524300 value places of each kind",
             Wrong::Bytes => "bytes are written as pairs of hexadecimal digits, and no bytes as -",
             Wrong::Room => "write is handed at most 1000000 bytes",
-        }
+        })
+    }
+}
+
+impl From<ParseIntError> for Wrong {
+    ghost from_gives = { λ _ r. r ≡ Number };
+
+    fn from(_e: ParseIntError) -> Wrong {
+        Wrong::Number
     }
 }
 
@@ -55,5 +67,23 @@ impl From<AllocError> for Halt {
 
     fn from(e: AllocError) -> Halt {
         Halt::Memory(e)
+    }
+}
+
+impl From<NoNumbers> for Halt {
+    fn from(e: NoNumbers) -> Halt {
+        match e {
+            NoNumbers::NotANumber => Halt::NoCall(Wrong::Number),
+            NoNumbers::NoMemory(wrong) => Halt::Memory(wrong),
+        }
+    }
+}
+
+impl From<FromHexError> for Halt {
+    fn from(e: FromHexError) -> Halt {
+        match e {
+            FromHexError::OutOfMemory => Halt::Memory(AllocError),
+            _ => Halt::NoCall(Wrong::Bytes),
+        }
     }
 }

@@ -21,6 +21,17 @@ abbrev pub Named : List ℕ → List ℕ → Option Verb → Type 0
 Named first second (Some v) = NamedBy first second v
 Named first second None = (v : Verb) → NamedBy first second v → ⊥
 
+-- how many words ask for a verb
+abbrev pub words_of : Verb → ℕ
+words_of Enter = 1
+words_of Rerate = 1
+words_of Strike = 1
+words_of Bounds = 2
+words_of Claims = 2
+words_of Chance = 1
+words_of Reserve = 1
+words_of Layer = 1
+
 -- the verb of a call, and its numbers in order
 abbrev pub verb_asked : Call → Verb
 verb_asked (calls.Enter k w rs) = Enter

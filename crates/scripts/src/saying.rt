@@ -1,68 +1,73 @@
 // Answers in words.
-ghost use Rattle.std.specs.Prelude.{◌≡◌, [], ◌∷◌, ◌++◌, IfOk, string_bytes, codes, decimal, OnOk};
-ghost use Rattle.scripts.specs.Said.{level_said, count_said, refusal_said, both_said, said};
+ghost use Rattle.std.specs.Prelude.{◌≡◌, [], ◌∷◌, ◌++◌, Some, OnOk};
+ghost use Rattle.scripts.specs.Said.{level_said, count_said, refusal_said, said};
 
 use book::found::Found;
+use book::refusal::Refusal;
 use law::call::Answer;
-use std::alloc::{AllocError, Global};
+use std::alloc::AllocError;
+use std::fmt;
 
 // A level, or beyond.
-fn level(heap: Global, found: Found) -> Result<String, AllocError>
-    ensures { IfOk result (λ t. string_bytes t ≡ level_said found) }
-{
-    match found {
-        Found::At(level) => format!(in heap; "{level}"),
-        Found::Beyond => format!(in heap; "beyond"),
+#[derive(Clone, Copy, Debug)]
+pub struct Level(pub Found);
+
+impl fmt::Display for Level {
+    ghost output = { λ level. Some (level_said level.0) };
+
+    fn fmt<W: fmt::Write>(&self, f: &mut fmt::Formatter<W>) -> fmt::Result {
+        match self.0 {
+            Found::At(level) => write!(f, "{level}"),
+            Found::Beyond => write!(f, "beyond"),
+        }
+    }
+}
+
+// A count of claims, or none.
+#[derive(Clone, Copy, Debug)]
+pub struct Count(pub Option<u16>);
+
+impl fmt::Display for Count {
+    ghost output = { λ count. Some (count_said count.0) };
+
+    fn fmt<W: fmt::Write>(&self, f: &mut fmt::Formatter<W>) -> fmt::Result {
+        match self.0 {
+            Some(count) => write!(f, "{count}"),
+            None => write!(f, "none"),
+        }
     }
 }
 
 // A refusal by its number.
-pub fn refused(heap: Global, number: u32) -> Result<String, AllocError>
-    ensures { IfOk result (λ t. string_bytes t ≡ refusal_said number) }
-{
-    format!(in heap; "refused {number}")
-}
+#[derive(Clone, Copy, Debug)]
+pub struct Refused(pub u32);
 
-// A count of claims, or none.
-pub fn count(heap: Global, claims: Option<u16>) -> Result<String, AllocError>
-    ensures { IfOk result (λ t. string_bytes t ≡ count_said claims) }
-{
-    match claims {
-        Some(count) => format!(in heap; "{count}"),
-        None => format!(in heap; "none"),
+impl fmt::Display for Refused {
+    ghost output = { λ refused. Some (refusal_said refused.0) };
+
+    fn fmt<W: fmt::Write>(&self, f: &mut fmt::Formatter<W>) -> fmt::Result {
+        let number = self.0;
+        write!(f, "refused {number}")
     }
 }
 
-// Two numbers.
-fn two(heap: Global, lower: u64, upper: u64) -> Result<String, AllocError>
-    ensures { IfOk result (λ t. string_bytes t ≡ both_said (decimal lower) (decimal upper)) }
-{
-    format!(in heap; "{lower} {upper}")
-}
+// What comes of a call.
+#[derive(Clone, Copy, Debug)]
+pub struct Said(pub Result<Answer<Option<u16>>, Refusal>);
 
-// Two levels.
-fn reserve(heap: Global, low: Found, high: Found) -> Result<String, AllocError>
-    ensures { IfOk result (λ t. string_bytes t ≡ both_said (level_said low) (level_said high)) }
-{
-    let mut text = level(heap, low)?;
-    let high = level(heap, high)?;
-    text.push(' ')?;
-    text.push_str(high.as_str())?;
-    Ok(text)
-}
+impl fmt::Display for Said {
+    ghost output = { λ told. Some (said told.0) };
 
-// What is said of an answer.
-pub fn answer(heap: Global, answer: Answer<Option<u16>>) -> Result<String, AllocError>
-    ensures { IfOk result (λ t. string_bytes t ≡ said answer) }
-{
-    match answer {
-        Answer::Done => format!(in heap; "ok"),
-        Answer::Bounds(bounds) => two(heap, bounds.lower, bounds.upper),
-        Answer::Value(claims) => count(heap, claims),
-        Answer::Chance(lower, upper) => two(heap, lower, upper),
-        Answer::Reserve(low, high) => reserve(heap, low, high),
-        Answer::Layer(low, high) => two(heap, low, high),
-        Answer::Refused(refusal) => refused(heap, refusal.number()),
+    fn fmt<W: fmt::Write>(&self, f: &mut fmt::Formatter<W>) -> fmt::Result {
+        match self.0 {
+            Ok(Answer::Done) => write!(f, "ok"),
+            Ok(Answer::Bounds(bounds)) => write!(f, "{} {}", bounds.lower, bounds.upper),
+            Ok(Answer::Value(claims)) => write!(f, "{}", Count(claims)),
+            Ok(Answer::Chance(lower, upper)) => write!(f, "{lower} {upper}"),
+            Ok(Answer::Reserve(low, high)) => write!(f, "{} {}", Level(low), Level(high)),
+            Ok(Answer::Layer(low, high)) => write!(f, "{low} {high}"),
+            Err(refusal) => write!(f, "{}", Refused(refusal.number())),
+        }
     }
 }
 

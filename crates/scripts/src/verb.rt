@@ -1,6 +1,6 @@
 // The calls on a book by their words.
 ghost use Rattle.std.specs.Prelude.{◌≡◌, length, is_some, IfSome};
-ghost use Rattle.scripts.specs.Asked.{Named, verb_asked, numbers_asked, takes};
+ghost use Rattle.scripts.specs.Asked.{Named, verb_asked, numbers_asked, takes, words_of};
 
 use law::call::Call;
 
@@ -37,21 +37,32 @@ pub fn verb_of(first: &str, second: &str) -> Option<Verb>
     }
 }
 
+impl Verb {
+    // How many words ask for it.
+    pub fn words(self) -> usize
+        ensures { result ≡ words_of self }
+    {
+        match self {
+            Verb::Bounds | Verb::Claims => 2,
+            _ => 1,
+        }
+    }
+}
+
 // The call that a verb and its numbers make, if they make one.
 pub fn call_of<'a>(verb: Verb, numbers: &'a [u32]) -> Option<Call<'a>>
     ensures takes { is_some result ≡ takes verb (length numbers.now) }
     ensures asks { IfSome result (λ c. (verb_asked c ≡ verb) × (numbers_asked c ≡ numbers.now)) }
 {
-    let n = numbers.len();
-    match verb {
-        Verb::Enter if n >= 2 => Some(Call::Enter(numbers[0], numbers[1], &numbers[2..])),
-        Verb::Rerate if n >= 1 => Some(Call::ReRate(numbers[0], &numbers[1..])),
-        Verb::Strike if n == 1 => Some(Call::Strike(numbers[0])),
-        Verb::Bounds if n == 2 => Some(Call::BoundsAt(numbers[0], numbers[1])),
-        Verb::Claims if n == 2 => Some(Call::ValueAt(numbers[0], numbers[1])),
-        Verb::Chance if n == 2 => Some(Call::ChanceAt(numbers[0], numbers[1])),
-        Verb::Reserve if n == 1 => Some(Call::ReserveFor(numbers[0])),
-        Verb::Layer if n == 2 => Some(Call::LayerOf(numbers[0], numbers[1])),
+    match (verb, numbers) {
+        (Verb::Enter, [key, loss, rates @ ..]) => Some(Call::Enter(*key, *loss, rates)),
+        (Verb::Rerate, [key, rates @ ..]) => Some(Call::ReRate(*key, rates)),
+        (Verb::Strike, [key]) => Some(Call::Strike(*key)),
+        (Verb::Bounds, [scenario, level]) => Some(Call::BoundsAt(*scenario, *level)),
+        (Verb::Claims, [scenario, level]) => Some(Call::ValueAt(*scenario, *level)),
+        (Verb::Chance, [scenario, level]) => Some(Call::ChanceAt(*scenario, *level)),
+        (Verb::Reserve, [confidence]) => Some(Call::ReserveFor(*confidence)),
+        (Verb::Layer, [from, to]) => Some(Call::LayerOf(*from, *to)),
         _ => None,
     }
 }

@@ -1,9 +1,7 @@
-use Rattle.std.proofs.Common.{◌≡◌, ◌+◌, ◌<◌, List, length, take, sym, refl, subst, arith}
-use Rattle.std.proofs.lemmas.List.{get_or_default}
-use Rattle.law.specs.declared.call.Answer.{Answer}
+use Rattle.std.proofs.Common.{◌≡◌, ◌<◌, length, ◌∙◌, refl, arith}
+use Rattle.std.proofs.lemmas.List.{length-take, get_or-take, get_or_default}
 use Rattle.book.specs.Declines.{handed}
 use Rattle.book.specs.Laid.{state}
-use Rattle.law.specs.Law.{CarriedOut}
 use Rattle.book.specs.Listed.{listed}
 use Rattle.law.specs.Truth.{FiguresStand}
 use Rattle.book.proofs.Handing.{handed_same}
@@ -31,15 +29,15 @@ loop-i-preserved g c = λ sound held.
     let v = length c.args.values.now in
     let x = state c.args.book.now c.args.levels.now c.args.bounds.now c.args.values.now in
     let y = state c.loop-i.book c.loop-i.levels c.loop-i.bounds c.loop-i.values in
-    let z = state c.step-answer.new.book c.step-answer.new.levels c.step-answer.new.bounds c.step-answer.new.values in
+    let z = state c.step.new.book c.step.new.levels c.step.new.bounds c.step.new.values in
     let same = handed_same c.loop-i.auto.levels c.loop-i.auto.bounds c.loop-i.auto.values in
-    let within : c.loop-i.i < length c.args.calls.now = omega arith in
-    let room : c.loop-i.i < length c.loop-i.answers = omega arith in
-    subst (λ (answers : List (Answer g.row.R-Value.Denot)). CarriedOut ops stands (handed l b v) (listed c.args.book.now) (take (c.loop-i.i + 1) c.args.calls.now) x z c.args.answers.now answers) (sym c.put.ensures)
-    (law_step ops stands means (handed l b v) (listed c.args.book.now) sound c.args.calls.now x y z c.args.answers.now c.loop-i.answers c.loop-i.i _ c.step-answer.result
-    within room (get_or_default _ _ _ _ within) (c.loop-i.invariant sound held) _ same c.step-answer.ensures.does)
+    let few = length-take c.min-n.result c.args.calls.now in
+    let within : c.loop-i.i < length c.args.calls.now = omega (arith, few) in
+    let room : c.loop-i.i < length c.loop-i.answers = omega (arith, few) in
+    law_step ops stands means (handed l b v) (listed c.args.book.now) sound c.args.calls.now x y z c.args.answers.now c.loop-i.answers c.loop-i.i _ c.step.result
+    within room (get_or-take c.min-n.result c.args.calls.now c.loop-i.i _ (omega (arith, few)) ∙ get_or_default _ _ _ _ within) (c.loop-i.invariant sound held) _ same c.step.ensures.does
 
 pub returns : goal.returns
 returns g c =
-    let all : c.min-n.result ≡ c.loop-i.i = omega arith in
+    let all : c.min-n.result ≡ c.loop-i.i = omega (arith, length-take c.min-n.result c.args.calls.now) in
     record { count = c.min-n.ensures; carried = rw all c.loop-i.invariant }

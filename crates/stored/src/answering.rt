@@ -1,0 +1,19 @@
+// What stored cases are put to.
+use rendering::statement::statement_of;
+use std::fs;
+
+// What a kind of stored case is put to.
+pub trait Answering {
+    // The answer to what the file of that name holds.
+    fn answer(rt: &HostRuntime, input: &str) -> anyhow::Result<Vec<u8>>;
+}
+
+// A tariff file gets its statement.
+pub enum Statements {}
+
+impl Answering for Statements {
+    fn answer(rt: &HostRuntime, input: &str) -> anyhow::Result<Vec<u8>> {
+        let file = fs::read(rt, input)?;
+        Ok(statement_of(rt.alloc(), &file[..])?.text)
+    }
+}
