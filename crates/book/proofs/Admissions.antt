@@ -1,7 +1,7 @@
 -- Which of the early sentences of enter is the first that holds.
 use Rattle.std.proofs.Common.{◌≡◌, ℕ, true, false, leb, List, [], ◌∷◌, Some, None, ◌∙◌}
 use Rattle.reckoning.specs.Outcomes.{loss_wrong}
-use Rattle.book.specs.Places.{Handed}
+use Rattle.book.specs.declared.shown.Handed.{Handed}
 use Rattle.book.specs.Declines.{places_wrong, rates_wrong, enter_early}
 use Rattle.book.specs.Plain.{Plain, size, scenarios, holds_key}
 use Rattle.book.specs.Refusals.{Sentences, first}

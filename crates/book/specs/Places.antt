@@ -1,7 +1,7 @@
 -- The places that a call is lent, and what they hold.
 use Rattle.std.specs.Prelude.{◌≡◌, ℕ, ◌*◌, ◌≤◌, List, length}
 use Rattle.reckoning.specs.declared.grains.Grains.{Grains}
-pub use Rattle.book.specs.declared.shown.Handed.{Handed}
+use Rattle.book.specs.declared.shown.Handed.{Handed}
 use Rattle.book.specs.declared.places.Lent.{Lent}
 use Rattle.book.specs.declared.shown.Shown.{Shown}
 

@@ -7,7 +7,8 @@ use Rattle.std.proofs.lemmas.Bool.{or_parts, or_from, not-false, not_from_true, 
 use Rattle.reckoning.specs.Outcomes.{summed, outside, loss_wrong, rate_wrong}
 use Rattle.law.specs.declared.call.Call.{Call}
 use Rattle.law.specs.declared.call.Call.TheVariants.{Enter, ReRate, Strike, BoundsAt, ValueAt, ChanceAt, ReserveFor, LayerOf}
-use Rattle.book.specs.Declines.{Handed, short, ceiling_wrong, shares_wrong, rates_wrong, places_wrong}
+use Rattle.book.specs.declared.shown.Handed.{Handed}
+use Rattle.book.specs.Declines.{short, ceiling_wrong, shares_wrong, rates_wrong, places_wrong}
 use Rattle.book.specs.Lawful.{LawfulEntry, Lawful}
 use Rattle.book.specs.Plain.{Entry, Plain, size, scenarios, same_key, holds_key, entry, opened, without, re_rated}
 use Rattle.law.specs.Runs.{declines, declines_open, changed, unless, after_open, after, afters, Sound}

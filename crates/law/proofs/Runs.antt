@@ -4,8 +4,9 @@ use Rattle.std.proofs.lemmas.List.{take_more, take-take, length-take, length-tak
 use Rattle.reckoning.specs.Operations.{Operations}
 use Rattle.reckoning.specs.Outcomes.{Family}
 use Rattle.law.specs.declared.call.Call.{Call}
-use Rattle.book.specs.Declines.{Handed}
-use Rattle.book.specs.Laid.{Places, State, RowsOutside, Outside, Holds}
+use Rattle.book.specs.declared.shown.Handed.{Handed}
+use Rattle.book.specs.Places.{Places}
+use Rattle.book.specs.Laid.{State, RowsOutside, Outside, Holds}
 use Rattle.law.specs.Law.{TellsTruth, CarriedOut, Law}
 use Rattle.book.specs.Listed.{listed}
 use Rattle.book.specs.Merging.{row_of}

@@ -5,7 +5,8 @@ use Rattle.reckoning.specs.Operations.{Operations}
 use Rattle.reckoning.specs.Outcomes.{Family, outside}
 use Rattle.reckoning.specs.Enclosing.{bounds}
 use Rattle.law.specs.declared.call.Call.TheVariants.{ValueAt, ChanceAt, ReserveFor, LayerOf}
-use Rattle.book.specs.Declines.{Handed, places_wrong}
+use Rattle.book.specs.declared.shown.Handed.{Handed}
+use Rattle.book.specs.Declines.{places_wrong}
 use Rattle.book.specs.Figures.{chance}
 use Rattle.law.specs.Law.{TellsTruth}
 use Rattle.book.specs.Plain.{Plain, scenarios}

@@ -11,7 +11,7 @@ use Rattle.law.specs.declared.call.Answer.{Answer}
 use Rattle.law.specs.declared.call.Answer.TheVariants.{Bounds, Value, Chance, Reserve, Layer}
 use Rattle.book.specs.declared.found.Found.{Found}
 use Rattle.book.specs.declared.found.Found.TheVariants.{At}
-use Rattle.book.specs.Declines.{Handed}
+use Rattle.book.specs.declared.shown.Handed.{Handed}
 use Rattle.law.specs.Exact.{family, exact, exact_mix, all, all_mix, quantile, premium_mix}
 use Rattle.book.specs.Laid.{State, Holds, Outside}
 use Rattle.book.specs.Least.{NotAbove}

@@ -7,7 +7,8 @@ use Rattle.law.specs.declared.call.Call.TheVariants.{Enter, ReRate, Strike, Boun
 use Rattle.law.specs.declared.call.Answer.{Answer}
 use Rattle.law.specs.declared.call.Answer.TheVariants.{Done, Bounds, Value, Chance, Reserve, Layer}
 use Rattle.book.specs.declared.refusal.Refusal.{Refusal}
-use Rattle.book.specs.Declines.{Handed, places_wrong, open_sentences, enter_early, enter_sentences, rerate_sentences, strike_sentences, value_sentences, chance_sentences, reserve_sentences, layer_sentences}
+use Rattle.book.specs.declared.shown.Handed.{Handed}
+use Rattle.book.specs.Declines.{places_wrong, open_sentences, enter_early, enter_sentences, rerate_sentences, strike_sentences, value_sentences, chance_sentences, reserve_sentences, layer_sentences}
 use Rattle.book.specs.Figures.{chance}
 use Rattle.book.specs.Laid.{State, Holds, Outside}
 use Rattle.book.specs.Levels.{kept}

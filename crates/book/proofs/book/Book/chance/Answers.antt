@@ -3,7 +3,7 @@ use Rattle.reckoning.specs.Enclosing as Enclosing
 use Rattle.book.specs.Figures.{mixed_at, told_in}
 use Rattle.book.specs.Listed.{shares_of, listed}
 use Rattle.book.specs.Merging.{reached, only_zero}
-use Rattle.book.specs.Places.{Handed}
+use Rattle.book.specs.declared.shown.Handed.{Handed}
 use Rattle.book.specs.Plain.{losses}
 use Rattle.book.specs.Told.{found_below}
 use Rattle.book.proofs.Halvings.{found_kept, found_picked}

@@ -10,7 +10,8 @@ use Rattle.book.specs.Refusals.{first, number_of, FreeOf}
 use Rattle.book.proofs.Keys.{distinct_push}
 use Rattle.book.proofs.Firsts.{first_early, first_late, first_one}
 use Rattle.book.proofs.Overlays.{Over, over_accepted, over_refused, over_declined, over_same}
-use Rattle.book.specs.Places.{Handed, places_of, handed_of, held}
+use Rattle.book.specs.declared.shown.Handed.{Handed}
+use Rattle.book.specs.Places.{places_of, handed_of, held}
 use Rattle.book.proofs.book.Book.enter.Goals as goal
 
 pub invariant_of-self : goal.invariant_of-self
