@@ -9,43 +9,41 @@ ghost use Rattle.book.specs.Refusals.{first, refusal_of};
 ghost use Rattle.book.specs.Reserved.{mix_beside, AnswersBy, Among, FirstOf, FirstReached};
 
 use crate::book::Book;
-use crate::found::Found;
 use crate::refusal::Refusal;
 use reckoning::grains::Grains;
 use reckoning::reckoning::Reckoning;
 
 impl Book {
-    // The first kept level beside which the mix passes.
+    // The first kept level beside which the mix passes; none where it passes beside none of them.
     fn first_reached<F: Fn(Grains) -> bool>(
         &self,
         levels: &[u32],
         bounds: &[Grains],
         passes: F,
-    ) -> Found
+    ) -> Option<u32>
         requires places { (length levels.now ≡ self.now.places) × (self.now.shares.count * self.now.places ≤ length bounds.now) }
         requires callable { F.IsAlwaysCallable passes }
         ensures { (test : Grains → Bool) → AnswersBy (F.post passes) test → FirstOf (λ i. test (mix_beside self.now bounds.now i)) levels.now self.now.kept result }
     {
         let mut rest = levels[..self.kept].iter().enumerate();
-        let found = loop {
+        loop {
             let Some((i, level)) = rest.next() else {
-                break Found::Beyond;
+                break None;
             };
             if passes(self.chance_at(0, i + 1, bounds)) {
-                break Found::At(*level);
+                break Some(*level);
             }
-        };
-        found
+        }
     }
 
-    // The least level whose upper chance in the mix is at least the confidence, and the least whose lower chance is.
+    // The least level whose upper chance in the mix is at least the confidence, and the least whose lower chance is; none where there is no such level up to the ceiling, which is above all levels.
     pub fn reserve<R: Reckoning>(
         &self,
         confidence: u32,
         levels: &[u32],
         bounds: &[Grains],
         values: &[R::Value],
-    ) -> Result<(Found, Found), Refusal>
+    ) -> Result<(Option<u32>, Option<u32>), Refusal>
         ensures declines { refusal_of result ≡ first (reserve_sentences (handed (length levels.now) (length bounds.now) (length values.now)) (listed self.now) confidence) }
         ensures range { IfOk result (λ t. Among levels.now self.now.kept t.0 × Among levels.now self.now.kept t.1) }
         ensures told { IfOk result (λ t. FirstReached (λ g. g.upper) confidence self.now (places_of levels.now bounds.now values.now) t.0 × FirstReached (λ g. g.lower) confidence self.now (places_of levels.now bounds.now values.now) t.1) }

@@ -1,5 +1,4 @@
 // What a run is made of: calls on an opened book, and their answers.
-use book::found::Found;
 use book::refusal::Refusal;
 use reckoning::grains::Grains;
 
@@ -32,7 +31,7 @@ pub enum Answer<V> {
     Bounds(Grains),
     Value(V),
     Chance(u64, u64),
-    Reserve(Found, Found),
+    Reserve(Option<u32>, Option<u32>),
     Layer(u64, u64),
     Refused(Refusal),
 }

@@ -9,7 +9,6 @@ ghost use Rattle.law.specs.Runs.{answered, number_of_answer, DeclinedAs, Sound, 
 
 use crate::call::{Answer, Call};
 use book::book::Book;
-use book::found::Found;
 use book::refusal::Refusal;
 use reckoning::grains::Grains;
 use reckoning::reckoning::Reckoning;
@@ -51,7 +50,7 @@ fn as_chance<V>(told: Result<(u64, u64), Refusal>) -> Answer<V>
     }
 }
 
-fn as_reserve<V>(told: Result<(Found, Found), Refusal>) -> Answer<V>
+fn as_reserve<V>(told: Result<(Option<u32>, Option<u32>), Refusal>) -> Answer<V>
     ensures { result ≡ answered (λ t. Answer.Reserve t.0 t.1) told }
 {
     match told {

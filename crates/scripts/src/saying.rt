@@ -2,17 +2,16 @@
 ghost use Rattle.std.specs.Prelude.{◌≡◌, [], ◌∷◌, ◌++◌, IfOk, string_bytes, codes, decimal, OnOk};
 ghost use Rattle.scripts.specs.Said.{level_said, count_said, refusal_said, both_said, said};
 
-use book::found::Found;
 use law::call::Answer;
 use std::alloc::{AllocError, Global};
 
 // A level, or beyond.
-fn level(heap: Global, found: Found) -> Result<String, AllocError>
+fn level(heap: Global, found: Option<u32>) -> Result<String, AllocError>
     ensures { IfOk result (λ t. string_bytes t ≡ level_said found) }
 {
     match found {
-        Found::At(level) => format!(in heap; "{level}"),
-        Found::Beyond => format!(in heap; "beyond"),
+        Some(level) => format!(in heap; "{level}"),
+        None => format!(in heap; "beyond"),
     }
 }
 
@@ -41,7 +40,7 @@ fn two(heap: Global, lower: u64, upper: u64) -> Result<String, AllocError>
 }
 
 // Two levels.
-fn reserve(heap: Global, low: Found, high: Found) -> Result<String, AllocError>
+fn reserve(heap: Global, low: Option<u32>, high: Option<u32>) -> Result<String, AllocError>
     ensures { IfOk result (λ t. string_bytes t ≡ both_said (level_said low) (level_said high)) }
 {
     let mut text = level(heap, low)?;

@@ -1,9 +1,8 @@
-use Rattle.std.proofs.Common.{ℕ, length, sym, refl, ap, ◌∙◌, subst}
+use Rattle.std.proofs.Common.{ℕ, length, sym, refl, ap, ◌∙◌, subst, Option}
 use Rattle.reckoning.specs.declared.grains.Grains.{Grains}
 use Rattle.law.specs.declared.call.Call.{Call}
 use Rattle.law.specs.declared.call.Call.TheVariants.{Enter, ReRate, Strike, BoundsAt, ValueAt, ChanceAt, ReserveFor, LayerOf}
 use Rattle.law.specs.declared.call.Answer.TheVariants.{Bounds, Value, Chance, Reserve, Layer}
-use Rattle.book.specs.declared.found.Found.{Found}
 use Rattle.book.specs.Declines.{handed}
 use Rattle.book.specs.Laid.{state}
 use Rattle.book.specs.Listed.{listed}
@@ -100,7 +99,7 @@ returns-in-ReserveFor g c =
     (one_reading (λ t. Reserve t.0 t.1) (λ t. refl) ops h x (ReserveFor c.in-ReserveFor.c) refl told c.as_reserve.result c.as_reserve.ensures
     c.reserve.ensures.declines c.reserve.ensures.declines
     (λ held.
-    made_on _ _ (λ t is. ap (λ (v : Found). Reserve v t.1) is.0 ∙ ap (λ (v : Found). Reserve (reserve_low (listed x.book) c.in-ReserveFor.c) v) is.1) told (c.reserve.ensures.tells held))) in
+    made_on _ _ (λ t is. ap (λ (v : Option ℕ). Reserve v t.1) is.0 ∙ ap (λ (v : Option ℕ). Reserve (reserve_low (listed x.book) c.in-ReserveFor.c) v) is.1) told (c.reserve.ensures.tells held))) in
     record { does = both.does; declines = both.declines }
 
 pub returns-in-LayerOf : goal.returns-in-LayerOf
