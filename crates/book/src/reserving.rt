@@ -2,7 +2,7 @@
 ghost use Rattle.std.specs.Prelude.{◌≡◌, ◌*◌, ◌≤◌, Bool, length, IfOk};
 ghost use Rattle.reckoning.specs.declared.grains.Grains.{Grains};
 ghost use Rattle.book.specs.Declines.{handed, reserve_sentences};
-ghost use Rattle.book.specs.Laid.{places_of, Holds};
+ghost use Rattle.book.specs.Laid.{places_of, RowsFit, Holds};
 ghost use Rattle.book.specs.Listed.{listed};
 ghost use Rattle.book.specs.Pricing.{reserve_low, reserve_high};
 ghost use Rattle.book.specs.Refusals.{first, refusal_of};
@@ -21,7 +21,7 @@ impl Book {
         bounds: &[Grains],
         passes: F,
     ) -> Option<u32>
-        requires places { (length levels.now ≡ self.now.places) × (self.now.shares.count * self.now.places ≤ length bounds.now) }
+        requires places { RowsFit self.now (length levels.now) (length bounds.now) }
         requires callable { F.IsAlwaysCallable passes }
         ensures { (test : Grains → Bool) → AnswersBy (F.post passes) test → FirstOf (λ i. test (mix_beside self.now bounds.now i)) levels.now self.now.kept result }
     {
