@@ -1,11 +1,9 @@
 -- Where the places hold the list, the first kept level that passes is the least level that passes.
-use Rattle.std.proofs.Common.{◌≡◌, ℕ, suc, ◌+◌, ◌-◌, ◌<◌, ◌≤◌, Bool, List, ◌∷◌, length, get_or, drop, sym, ap, ◌∙◌, subst, add-one, length-drop, drop-cons, arith}
+use Rattle.std.proofs.Common.{◌≡◌, ℕ, suc, ◌+◌, ◌-◌, ◌<◌, ◌≤◌, Bool, List, ◌∷◌, length, get_or, drop, sym, ap, ◌∙◌, subst, add-one, length-drop, drop-cons, arith, Option, Some, None}
 use Rattle.std.proofs.lemmas.List.{get_or-take, length_push}
 use Rattle.reckoning.specs.declared.grains.Grains.{Grains}
 use Rattle.reckoning.specs.Enclosing.{bounds}
 use Rattle.book.specs.declared.book.Book.{Book}
-use Rattle.book.specs.declared.found.Found.{Found}
-use Rattle.book.specs.declared.found.Found.TheVariants.{At, Beyond}
 use Rattle.book.specs.Figures.{chance}
 use Rattle.book.specs.Laid.{LevelsHold, RowsHold}
 use Rattle.book.specs.Least.{Least, least}
@@ -20,9 +18,9 @@ use Rattle.book.proofs.Reaches.{kept_by_merging}
 use Rattle.book.proofs.Readings.{levels_picked, some_level, chance_held}
 
 -- what is found stands in a place
-pub first_among : (test : ℕ → Bool) (levels : List ℕ) (n : ℕ) (f : Found) → FirstOf test levels n f → Among levels n f
-first_among test levels n (At q) h = (h.0, h.1, h.2)
-first_among test levels n Beyond h = tt
+pub first_among : (test : ℕ → Bool) (levels : List ℕ) (n : ℕ) (f : Option ℕ) → FirstOf test levels n f → Among levels n f
+first_among test levels n (Some q) h = (h.0, h.1, h.2)
+first_among test levels n None h = tt
 
 -- the first of what is left past n places
 pub next_is : (xs ys : List ℕ) (n y : ℕ) → y ∷ ys ≡ drop n xs → (n < length xs) × (get_or xs n 0 ≡ y) × (ys ≡ drop (n + 1) xs)
@@ -68,13 +66,13 @@ module _ (b : Book) (levels : List ℕ) (rows : List Grains) (held : LevelsHold 
       let next : i + 1 ≡ length (picked S (y + 1)) = omega (arith, ap length (picked_yes S y s.2), length_push (picked S y) y, ap (λ (k : ℕ). length (picked S k)) one) in
       subst (λ (v : ℕ). (v ≤ b.ceiling) × (i + 1 ≡ length (picked S (v + 1))) × (length (picked S v) ≡ i)) is (omega arith, next, rank)
 
-  first_least : (f : Found) → FirstOf by_place levels b.kept f → Least by_level b.ceiling f
-  first_least (At q) (i, l, at, holds, before) =
+  first_least : (f : Option ℕ) → FirstOf by_place levels b.kept f → Least by_level b.ceiling f
+  first_least (Some q) (i, l, at, holds, before) =
       let here = place_level i l in
       let v = get_or levels i 0 in
       let under = here.0 in
       let rank = here.2 in
-      subst (λ (v : ℕ). Least by_level b.ceiling (At v)) at (
+      subst (λ (v : ℕ). Least by_level b.ceiling (Some v)) at (
         under,
         same_test v i under here.1 ∙ holds,
         λ k less.
@@ -83,9 +81,9 @@ module _ (b : Book) (levels : List ℕ) (rows : List Grains) (held : LevelsHold 
             let few = rank_mono S (k + 1) v (omega arith) in
             same_test k last.0 (omega arith) count ∙ before last.0 (omega arith),
       )
-  first_least Beyond none = λ k under.
+  first_least None none = λ k under.
       let last = last_place k under in
       same_test k last.0 under last.1 ∙ none last.0 last.2
 
-  pub first_is_least : (f : Found) → FirstOf by_place levels b.kept f → f ≡ least by_level b.ceiling
+  pub first_is_least : (f : Option ℕ) → FirstOf by_place levels b.kept f → f ≡ least by_level b.ceiling
   first_is_least f h = least_unique by_level b.ceiling f (least by_level b.ceiling) (first_least f h) (least_is by_level b.ceiling)

@@ -1,7 +1,8 @@
 -- Sums over the levels of a layer, by stretches on which the chances do not change.
-use Rattle.std.proofs.Common.{◌≡◌, ℕ, zero, suc, ◌+◌, ◌-◌, ◌*◌, ◌<◌, ◌≤◌, Bool, true, ltb, List, length, get_or, take, ap, ◌∙◌, inl, inr, mul-le-mul_left, arith}
+use Rattle.std.proofs.Common.{◌≡◌, ℕ, zero, suc, ◌+◌, ◌-◌, ◌*◌, ◌<◌, ◌≤◌, Bool, true, ltb, cond, max, min, List, length, get_or, take, sym, ap, length-take, ◌∙◌, inl, inr, mul-le-mul_left, arith}
 use Rattle.std.specs.List.{range_with_len}
-use Rattle.std.proofs.lemmas.Bool.{cases_lt, cases_Bool, cond-true, cond-false, ltb-true, ltb-false}
+use Rattle.std.proofs.lemmas.List.{get_or-take}
+use Rattle.std.proofs.lemmas.Bool.{cases_lt, cases_Bool, cond-true, cond-false, ltb-true, ltb-false, le-ltb}
 use Rattle.reckoning.specs.Outcomes.{summed}
 use Rattle.reckoning.specs.declared.grains.Grains.{Grains}
 use Rattle.book.specs.declared.book.Book.{Book}
@@ -45,6 +46,17 @@ pub stretch_order : (a b low high u v : ℕ) → low ≤ high → u ≤ v → lo
 stretch_order a b low high u v was small = omega (arith, mul-le-mul_left (b - a) small)
 
 -- ---- levels as places tell them
+-- no level from n on ends a stretch
+pub stretch_kept : (levels : List ℕ) (n i a t : ℕ) → n ≤ length levels → stretch_end (take n levels) (length (take n levels)) i a t ≡ stretch_end levels n i a t
+stretch_kept levels n i a t within =
+    let all : length (take n levels) ≡ n = omega (arith, length-take n levels) in
+    ap (λ (k : ℕ). stretch_end (take n levels) k i a t) all
+    ∙ ap (λ (v : ℕ). max a (min t v))
+    (elim (cases_lt i n) [
+      | inl l ↦ ap (λ (v : ℕ). cond (ltb i n) v t) (get_or-take n levels i 0 l)
+      | inr h ↦ cond-false (ltb i n) (get_or (take n levels) i 0) t (le-ltb i n h) ∙ sym (cond-false (ltb i n) (get_or levels i 0) t (le-ltb i n h))
+    ])
+
 -- a sum over the first i stretches, which end at a, and what is still to come make up what the places tell of the layer
 abbrev pub StillToCome : (Grains → ℕ) → Book → List ℕ → List Grains → ℕ → ℕ → ℕ → ℕ → ℕ → Type 0
 StillToCome count b levels rows d t i a sum =

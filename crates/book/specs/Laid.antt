@@ -40,6 +40,10 @@ pub record Room (b : Book) (h : Handed) : Type 0 where
   pub for_bounds : b.shares.count * b.places ≤ h.bounds
   pub for_values : b.shares.count * b.places ≤ h.values
 
+-- the level places and one list of rows fit the book
+abbrev pub RowsFit : Book → ℕ → ℕ → Type 0
+RowsFit b levels rows = (levels ≡ b.places) × (b.shares.count * b.places ≤ rows)
+
 -- the first n level places hold the kept levels, and there are no more of them
 pub record LevelsHold (p : Plain) (n : ℕ) (levels : List ℕ) : Type 0 where
   pub count : n ≡ length (kept p.ceiling (losses p))

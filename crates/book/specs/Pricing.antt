@@ -1,8 +1,7 @@
 -- What reserve and layer tell, both from the chances of the mix.
-use Rattle.std.specs.Prelude.{ℕ, ◌-◌, ◌*◌, Bool, List, nat_le}
+use Rattle.std.specs.Prelude.{ℕ, ◌-◌, ◌*◌, Bool, List, nat_le, Option}
 use Rattle.std.specs.List.{range_with_len}
 use Rattle.reckoning.specs.Outcomes.{summed}
-use Rattle.book.specs.declared.found.Found.{Found}
 use Rattle.book.specs.Plain.{Plain}
 use Rattle.book.specs.Figures.{chance}
 use Rattle.book.specs.Least.{least}
@@ -19,10 +18,10 @@ abbrev pub reaches : ℕ → ℕ → Bool
 reaches c grains = nat_le (c * 1000000) grains
 
 -- the ends of a reserve: the least level whose upper chance reaches the confidence, and whose lower chance does
-abbrev pub reserve_low : Plain → ℕ → Found
+abbrev pub reserve_low : Plain → ℕ → Option ℕ
 reserve_low p c = least (λ k. reaches c (mix_upper p k)) p.ceiling
 
-abbrev pub reserve_high : Plain → ℕ → Found
+abbrev pub reserve_high : Plain → ℕ → Option ℕ
 reserve_high p c = least (λ k. reaches c (mix_lower p k)) p.ceiling
 
 -- the levels of a layer, from d to t - 1

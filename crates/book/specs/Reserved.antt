@@ -1,9 +1,7 @@
 -- What the places tell of a reserve, whatever lies there: the first kept level beside which the mix reaches the confidence.
-use Rattle.std.specs.Prelude.{◌≡◌, ℕ, ◌+◌, ◌<◌, Bool, true, false, List, slice_index}
+use Rattle.std.specs.Prelude.{◌≡◌, ℕ, ◌+◌, ◌<◌, Bool, true, false, List, slice_index, Option, Some, None}
 use Rattle.reckoning.specs.declared.grains.Grains.{Grains}
 use Rattle.book.specs.declared.book.Book.{Book}
-use Rattle.book.specs.declared.found.Found.{Found}
-use Rattle.book.specs.declared.found.Found.TheVariants.{At, Beyond}
 use Rattle.book.specs.Figures.{mixed_at, told_in}
 use Rattle.book.specs.Places.{Places}
 use Rattle.book.specs.Listed.{shares_of}
@@ -18,15 +16,15 @@ abbrev pub AnswersBy : (Grains → Bool → Type 0) → (Grains → Bool) → Ty
 AnswersBy post test = (g : Grains) (r : Bool) → post g r → r ≡ test g
 
 -- a level that stands at one of the first n places
-abbrev pub Among : List ℕ → ℕ → Found → Type 0
-Among levels n (At q) = (i : ℕ) × (i < n) × (slice_index levels i ≡ q)
-Among levels n Beyond = Unit {0}
+abbrev pub Among : List ℕ → ℕ → Option ℕ → Type 0
+Among levels n (Some q) = (i : ℕ) × (i < n) × (slice_index levels i ≡ q)
+Among levels n None = Unit {0}
 
--- the level at the first of n places at which the test holds; beyond: it holds at none of them
-abbrev pub FirstOf : (ℕ → Bool) → List ℕ → ℕ → Found → Type 0
-FirstOf test levels n (At q) = (i : ℕ) × (i < n) × (slice_index levels i ≡ q) × (test i ≡ true) × ((j : ℕ) → j < i → test j ≡ false)
-FirstOf test levels n Beyond = (j : ℕ) → j < n → test j ≡ false
+-- the level at the first of n places at which the test holds; none, which is beyond: it holds at none of them
+abbrev pub FirstOf : (ℕ → Bool) → List ℕ → ℕ → Option ℕ → Type 0
+FirstOf test levels n (Some q) = (i : ℕ) × (i < n) × (slice_index levels i ≡ q) × (test i ≡ true) × ((j : ℕ) → j < i → test j ≡ false)
+FirstOf test levels n None = (j : ℕ) → j < n → test j ≡ false
 
 -- the first kept level beside which that count of the mix reaches c millionths
-abbrev pub FirstReached : {V : Type 0} → (Grains → ℕ) → ℕ → Book → Places V → Found → Type 0
+abbrev pub FirstReached : {V : Type 0} → (Grains → ℕ) → ℕ → Book → Places V → Option ℕ → Type 0
 FirstReached count c b x found = FirstOf (λ i. reaches c (count (mix_beside b x.bounds i))) x.levels b.kept found

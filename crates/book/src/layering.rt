@@ -2,7 +2,7 @@
 ghost use Rattle.std.specs.Prelude.{◌≡◌, ℕ, ◌+◌, ◌-◌, ◌*◌, ◌<◌, ◌≤◌, length, IfOk};
 ghost use Rattle.reckoning.specs.Enclosing as Enclosing;
 ghost use Rattle.book.specs.Declines.{layer_sentences};
-ghost use Rattle.book.specs.Laid.{LevelsHold, RowsHold, Holds};
+ghost use Rattle.book.specs.Laid.{RowsFit, LevelsHold, RowsHold, Holds};
 ghost use Rattle.book.specs.Layered.{stretch_end, layer_over};
 ghost use Rattle.book.specs.Listed.{listed};
 ghost use Rattle.book.specs.Pricing.{layer_low, layer_high};
@@ -15,19 +15,18 @@ use crate::shown::Shown;
 use reckoning::grains::Grains;
 use reckoning::reckoning::Reckoning;
 
-// Where the stretch that begins at `at`, with `found` levels not above it, ends: at the next level, and at `to` at the latest.
-fn end_of_stretch(levels: &[u32], len: usize, found: usize, at: u32, to: u32) -> u32
-    requires { len ≤ length levels.now }
-    ensures { result ≡ stretch_end levels.now len found at to }
+// Where the stretch that begins at `at`, with `found` of the kept levels not above it, ends: at the next level, and at `to` at the latest.
+fn end_of_stretch(kept: &[u32], found: usize, at: u32, to: u32) -> u32
+    ensures { result ≡ stretch_end kept.now (length kept.now) found at to }
 {
-    let next = if found < len { levels[found] } else { to };
+    let next = kept.get(found).copied().unwrap_or(to);
     next.min(to).max(at)
 }
 
 impl Book {
     // What the upper, and the lower, chance of the mix leaves of certainty from one level to another: each kept level counts for the stretch up to the next one.
     fn layer_sums(&self, from: u32, to: u32, levels: &[u32], bounds: &[Grains]) -> (u64, u64)
-        requires { (length levels.now ≡ self.now.places) × ((self.now.shares.count * self.now.places ≤ length bounds.now) × ((from ≤ to) × (to ≤ self.now.ceiling + 1))) }
+        requires { RowsFit self.now (length levels.now) (length bounds.now) × ((from ≤ to) × (to ≤ self.now.ceiling + 1)) }
         ensures range { (result.0 ≤ result.1) × (result.1 ≤ (to - from) * 1000000000000) }
         ensures told { (result.0 ≡ layer_over (λ g. g.upper) self.now levels.now bounds.now from to) × (result.1 ≡ layer_over (λ g. g.lower) self.now levels.now bounds.now from to) }
         ensures tells { LevelsHold (listed self.now) self.now.kept levels.now → RowsHold Enclosing.bounds (listed self.now) self.now.kept bounds.now → (result.0 ≡ layer_low (listed self.now) from to) × (result.1 ≡ layer_high (listed self.now) from to) }
@@ -37,7 +36,7 @@ impl Book {
         let mut at = from;
         for i in 0..self.kept {
             let told = self.chance_at(0, i + 1, bounds);
-            let end = end_of_stretch(levels, self.kept, i + 1, at, to);
+            let end = end_of_stretch(&levels[..self.kept], i + 1, at, to);
             let wide = u64::from(end - at);
             low += wide * (1_000_000_000_000 - told.upper);
             high += wide * (1_000_000_000_000 - told.lower);

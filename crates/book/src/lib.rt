@@ -5,7 +5,6 @@ pub mod book;
 pub mod changing;
 pub mod contract;
 pub mod entering;
-pub mod found;
 mod frame;
 pub mod layering;
 mod laying;

@@ -2,7 +2,7 @@
 ghost use Rattle.std.specs.Prelude.{◌≡◌, ◌*◌, ◌≤◌, Bool, length, IfOk};
 ghost use Rattle.reckoning.specs.declared.grains.Grains.{Grains};
 ghost use Rattle.book.specs.Declines.{reserve_sentences};
-ghost use Rattle.book.specs.Laid.{Holds};
+ghost use Rattle.book.specs.Laid.{RowsFit, Holds};
 ghost use Rattle.book.specs.Listed.{listed};
 ghost use Rattle.book.specs.Pricing.{reserve_low, reserve_high};
 ghost use Rattle.book.specs.Refusals.{first, refusal_of};
@@ -10,42 +10,40 @@ ghost use Rattle.book.specs.Reserved.{mix_beside, AnswersBy, Among, FirstOf, Fir
 ghost use Rattle.book.specs.Places.{handed_of, shown};
 
 use crate::book::Book;
-use crate::found::Found;
 use crate::refusal::Refusal;
 use crate::shown::Shown;
 use reckoning::grains::Grains;
 use reckoning::reckoning::Reckoning;
 
 impl Book {
-    // The first kept level beside which the mix passes.
+    // The first kept level beside which the mix passes; none where it passes beside none of them.
     fn first_reached<F: Fn(Grains) -> bool>(
         &self,
         levels: &[u32],
         bounds: &[Grains],
         passes: F,
-    ) -> Found
-        requires places { (length levels.now ≡ self.now.places) × (self.now.shares.count * self.now.places ≤ length bounds.now) }
+    ) -> Option<u32>
+        requires places { RowsFit self.now (length levels.now) (length bounds.now) }
         requires callable { F.IsAlwaysCallable passes }
         ensures { (test : Grains → Bool) → AnswersBy (F.post passes) test → FirstOf (λ i. test (mix_beside self.now bounds.now i)) levels.now self.now.kept result }
     {
         let mut rest = levels[..self.kept].iter().enumerate();
-        let found = loop {
+        loop {
             let Some((i, level)) = rest.next() else {
-                break Found::Beyond;
+                break None;
             };
             if passes(self.chance_at(0, i + 1, bounds)) {
-                break Found::At(*level);
+                break Some(*level);
             }
-        };
-        found
+        }
     }
 
-    // The least level whose upper chance in the mix is at least the confidence, and the least whose lower chance is.
+    // The least level whose upper chance in the mix is at least the confidence, and the least whose lower chance is; none where there is no such level up to the ceiling, which is above all levels.
     pub fn reserve<R: Reckoning>(
         &self,
         confidence: u32,
         places: &Shown<'_, R::Value>,
-    ) -> Result<(Found, Found), Refusal>
+    ) -> Result<(Option<u32>, Option<u32>), Refusal>
         ensures declines { refusal_of result ≡ first (reserve_sentences (handed_of (shown places.now)) (listed self.now) confidence) }
         ensures range { IfOk result (λ t. Among places.now.levels.now self.now.kept t.0 × Among places.now.levels.now self.now.kept t.1) }
         ensures told { IfOk result (λ t. FirstReached (λ g. g.upper) confidence self.now (shown places.now) t.0 × FirstReached (λ g. g.lower) confidence self.now (shown places.now) t.1) }

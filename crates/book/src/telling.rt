@@ -7,7 +7,7 @@ ghost use Rattle.reckoning.specs.Rounding.{pair};
 ghost use Rattle.book.specs.Declines.{value_late, value_sentences, chance_sentences};
 ghost use Rattle.book.specs.Figures as Figures;
 ghost use Rattle.book.specs.Figures.{mixed, mixed_at, told_at, told_in};
-ghost use Rattle.book.specs.Laid.{LevelsHold, RowsHold, Holds};
+ghost use Rattle.book.specs.Laid.{RowsFit, LevelsHold, RowsHold, Holds};
 ghost use Rattle.book.specs.Levels.{kept};
 ghost use Rattle.book.specs.Listed.{shares_of, listed};
 ghost use Rattle.book.specs.Merging.{row_of};
@@ -85,7 +85,7 @@ impl Book {
         levels: &[u32],
         rows: &[R::Value],
     ) -> Result<R::Value, Refusal>
-        requires { (length levels.now ≡ self.now.places) × (self.now.shares.count * self.now.places ≤ length rows.now) }
+        requires { RowsFit self.now (length levels.now) (length rows.now) }
         ensures declines { refusal_of result ≡ first (value_late (listed self.now) scenario level) }
         ensures range { IfOk result R.Reckoning.ranged }
         ensures told { IfOk result (λ v. v ≡ row_told R.Reckoning.reading R.Reckoning.operations self.now levels.now rows.now scenario level) }

@@ -1,8 +1,7 @@
 -- A reserve encloses the quantile.
-use Rattle.std.proofs.Common.{◌≡◌, ℕ, ◌+◌, ◌*◌, ◌<◌, ◌≤◌, Bool, true, leb, ◌≢◌, ◌∙◌, inl, inr, mul-le-mul_right, le_of_mul-le-mul_right, arith}
+use Rattle.std.proofs.Common.{◌≡◌, ℕ, ◌+◌, ◌*◌, ◌<◌, ◌≤◌, Bool, true, leb, ◌≢◌, ◌∙◌, inl, inr, mul-le-mul_right, le_of_mul-le-mul_right, arith, Some}
 use Rattle.std.proofs.lemmas.Bool.{cases_lt, le-leb, lt-leb, leb-true, leb-false}
 use Rattle.reckoning.specs.Rounding.{Encloses}
-use Rattle.book.specs.declared.found.Found.TheVariants.{At}
 use Rattle.book.specs.Least.{least, NotAbove}
 use Rattle.book.specs.Pricing.{reaches}
 use Rattle.law.specs.Truth.{Near}
@@ -43,26 +42,26 @@ module _ (n all wide : ℕ) (low high e : ℕ → ℕ) (some : 1 ≤ all) (enclo
   ordered k = let within = encloses k in let g : low k * all ≤ high k * all = omega arith in le_of_mul-le-mul_right g some
 
   -- below a level that the upper bound reaches first, the lower bound does not reach either
-  low_fails_below : (k j : ℕ) → least by_high n ≡ At k → j < k → low j < c * 1000000
+  low_fails_below : (k j : ℕ) → least by_high n ≡ Some k → j < k → low j < c * 1000000
   low_fails_below k j at less =
       let f = least_at by_high n k at in
       let fails : high j < c * 1000000 = leb-false _ _ (f.2 j less) in
       omega (arith, ordered j)
 
   -- where the ends differ, the lower bound at the low end does not reach the confidence
-  low_fails_at : (k : ℕ) → least by_high n ≢ least by_low n → least by_high n ≡ At k → low k < c * 1000000
+  low_fails_at : (k : ℕ) → least by_high n ≢ least by_low n → least by_high n ≡ Some k → low k < c * 1000000
   low_fails_at k differ at =
       elim (cases_lt (low k) (c * 1000000)) [
         | inl fails ↦ fails
         | inr holds ↦ absurd
             (differ
             (at
-            ∙ least_unique by_low n (At k) (least by_low n)
+            ∙ least_unique by_low n (Some k) (least by_low n)
             ((least_at by_high n k at).0, le-leb (c * 1000000) (low k) holds, λ j less. lt-leb (c * 1000000) (low j) (low_fails_below k j at less))
             (least_is by_low n)))
       ]
 
-  pub low_end_near : (k : ℕ) → least by_high n ≢ least by_low n → least by_high n ≡ At k → Near wide c (e k) all
+  pub low_end_near : (k : ℕ) → least by_high n ≢ least by_low n → least by_high n ≡ Some k → Near wide c (e k) all
   low_end_near k differ at =
       let f = least_at by_high n k at in
       let within = encloses k in

@@ -1,7 +1,6 @@
 -- Exact figures, over whole numbers: each is a sum of weights, to be read over all weight.
-use Rattle.std.specs.Prelude.{ℕ, ◌-◌, ◌*◌, ◌^◌, min, nat_le}
+use Rattle.std.specs.Prelude.{ℕ, ◌-◌, ◌*◌, ◌^◌, min, nat_le, Option}
 use Rattle.reckoning.specs.Outcomes.{Family, loss, weight, outcomes, within, summed, total}
-use Rattle.book.specs.declared.found.Found.{Found}
 use Rattle.book.specs.Plain.{Plain, size, losses, rates}
 use Rattle.book.specs.Figures.{numbered}
 use Rattle.book.specs.Least.{least}
@@ -31,7 +30,7 @@ abbrev pub exact_mix : Plain → ℕ → ℕ
 exact_mix p k = over_mix p (λ s. exact p s k)
 
 -- the least level whose chance in the mix is at least c millionths
-abbrev pub quantile : Plain → ℕ → Found
+abbrev pub quantile : Plain → ℕ → Option ℕ
 quantile p c = least (λ k. nat_le (c * all_mix p) (exact_mix p k * 1000000)) p.ceiling
 
 -- what a layer from d to t takes of a loss

@@ -9,8 +9,6 @@ use Rattle.law.specs.declared.call.Call.{Call}
 use Rattle.law.specs.declared.call.Call.TheVariants.{BoundsAt, ValueAt, ChanceAt, ReserveFor, LayerOf}
 use Rattle.law.specs.declared.call.Answer.{Answer}
 use Rattle.law.specs.declared.call.Answer.TheVariants.{Bounds, Value, Chance, Reserve, Layer}
-use Rattle.book.specs.declared.found.Found.{Found}
-use Rattle.book.specs.declared.found.Found.TheVariants.{At}
 use Rattle.book.specs.declared.shown.Handed.{Handed}
 use Rattle.law.specs.Exact.{family, exact, exact_mix, all, all_mix, quantile, premium_mix}
 use Rattle.book.specs.Laid.{State, Holds, Outside}
@@ -33,10 +31,10 @@ pub record Within (wide low high e all : ℕ) : Type 0 where
   pub narrow : high ≤ low + wide
 
 -- two levels enclose the exact quantile, and where they differ the exact chance at the lower one is near the confidence
-pub record Ends (p : Plain) (c : ℕ) (low high : Found) : Type 0 where
+pub record Ends (p : Plain) (c : ℕ) (low high : Option ℕ) : Type 0 where
   pub not_above : NotAbove low (quantile p c)
   pub not_below : NotAbove (quantile p c) high
-  pub near : (k : ℕ) → low ≢ high → low ≡ At k → Near (size p + 1) c (exact_mix p k) (all_mix p)
+  pub near : (k : ℕ) → low ≢ high → low ≡ Some k → Near (size p + 1) c (exact_mix p k) (all_mix p)
 
 -- what calls tell of a list with n contracts is true to their outcomes; `stands` is the meaning of the reckoning that is kept beside the bounds
 pub record TellsTruth {V : Type 0} (ops : Operations V) (stands : V → List ℕ → Family → Type 0) (h : Handed) (p : Plain) : Type 0 where
@@ -49,7 +47,7 @@ pub record TellsTruth {V : Type 0} (ops : Operations V) (stands : V → List ℕ
   -- n + 1 grains for the mix
   pub mix_within : (k : ℕ) → k ≤ p.ceiling → (low : ℕ) × (high : ℕ) × Tells ops h p (ChanceAt 0 k) (Chance low high) × Within (size p + 1) low high (exact_mix p k) (all_mix p)
   -- for any confidence a reserve is told, whose ends enclose the exact quantile
-  pub reserve_ends : (c : ℕ) → Confidence c → (low : Found) × (high : Found) × Tells ops h p (ReserveFor c) (Reserve low high) × Ends p c low high
+  pub reserve_ends : (c : ℕ) → Confidence c → (low : Option ℕ) × (high : Option ℕ) × Tells ops h p (ReserveFor c) (Reserve low high) × Ends p c low high
   -- for any layer two sums are told, which enclose the exact premium and differ by at most n + 1 grains a level
   pub layer_within : (d t : ℕ) → Truth.Layer p d t → (low : ℕ) × (high : ℕ) × Tells ops h p (LayerOf d t) (Layer low high) × Within ((t - d) * (size p + 1)) low high (premium_mix p d t) (all_mix p)
 

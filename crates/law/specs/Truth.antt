@@ -1,10 +1,9 @@
 -- A plain list is true to its outcomes: what the figures told of it have to do with the exact ones.
-use Rattle.std.specs.Prelude.{◌≡◌, ℕ, ◌+◌, ◌-◌, ◌*◌, ◌<◌, ◌≤◌, ◌≢◌, List}
+use Rattle.std.specs.Prelude.{◌≡◌, ℕ, ◌+◌, ◌-◌, ◌*◌, ◌<◌, ◌≤◌, ◌≢◌, List, Some}
 use Rattle.reckoning.specs.Outcomes.{Family, summed}
 use Rattle.reckoning.specs.Operations.{Operations}
 use Rattle.reckoning.specs.Rounding.{Encloses}
 use Rattle.reckoning.specs.Enclosing.{bounds, Stands}
-use Rattle.book.specs.declared.found.Found.TheVariants.{At}
 use Rattle.book.specs.Plain.{Plain, size, scenarios, rates}
 use Rattle.book.specs.Values.{value}
 use Rattle.book.specs.Figures.{chance}
@@ -55,7 +54,7 @@ pub record TrueToOutcomes {V : Type 0} (ops : Operations V) (stands : V → List
   -- and the high end is not below it
   pub reserve_not_below : (c : ℕ) → Confidence c → NotAbove (quantile p c) (reserve_high p c)
   -- where the ends differ, the exact chance at the low end is near the confidence
-  pub reserve_near : (c k : ℕ) → Confidence c → reserve_low p c ≢ reserve_high p c → reserve_low p c ≡ At k → Near (size p + 1) c (exact_mix p k) (all_mix p)
+  pub reserve_near : (c k : ℕ) → Confidence c → reserve_low p c ≢ reserve_high p c → reserve_low p c ≡ Some k → Near (size p + 1) c (exact_mix p k) (all_mix p)
   -- the bounds of a layer enclose its exact premium
   pub layer_enclosed : (d t : ℕ) → Layer p d t → Encloses (layer_low p d t) (layer_high p d t) (premium_mix p d t) (all_mix p)
   -- which is what the mix weighs above each of its levels

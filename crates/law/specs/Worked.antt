@@ -2,8 +2,6 @@
 use Rattle.std.specs.Prelude.{◌≡◌, ℕ, ◌*◌, Bool, true, false, ◌&&◌, List, [], ◌∷◌, Some, None, Option, ◌==◌}
 use Rattle.std.specs.Str.{bytes_eq}
 use Rattle.reckoning.specs.Counting.{counts}
-use Rattle.book.specs.declared.found.Found.{Found}
-use Rattle.book.specs.declared.found.Found.TheVariants.{At, Beyond}
 use Rattle.book.specs.Plain.{Entry, Plain, entry, losses}
 use Rattle.book.specs.Levels.{kept}
 use Rattle.book.specs.Values.{value}
@@ -19,7 +17,7 @@ pub data Figure : Type 0 where
   -- at a scenario and a level: the greatest number of claims
   claims_are : ℕ → ℕ → Option ℕ → Figure
   -- for a confidence: the two ends
-  reserve_is : ℕ → Found → Found → Figure
+  reserve_is : ℕ → Option ℕ → Option ℕ → Figure
   -- from one level to another: the two sums
   layer_is : ℕ → ℕ → ℕ → ℕ → Figure
 
@@ -43,13 +41,9 @@ same_count None (Some j) = false
 same_count (Some i) None = false
 same_count (Some i) (Some j) = i == j
 
--- a level as a count, none for beyond
-abbrev pub level_of : Found → Option ℕ
-level_of (At q) = Some q
-level_of Beyond = None
-
-abbrev pub same_found : Found → Found → Bool
-same_found a b = same_count (level_of a) (level_of b)
+-- two levels found, none for beyond
+abbrev pub same_found : Option ℕ → Option ℕ → Bool
+same_found a b = same_count a b
 
 -- whether the book has the figure
 abbrev pub has_figure : Plain → Figure → Bool
@@ -89,7 +83,7 @@ three_entered =
     (keeps (0 ∷ 2 ∷ 3 ∷ 4 ∷ 5 ∷ []) ∷
     both_are 0 360 ∷ both_are 2 760 ∷ both_are 3 850 ∷ both_are 4 890 ∷ both_are 5 990 ∷
     claims_are 1 0 (Some 0) ∷ claims_are 1 2 (Some 1) ∷ claims_are 1 3 (Some 1) ∷ claims_are 1 4 (Some 2) ∷ claims_are 1 5 (Some 2) ∷
-    reserve_is 850000 (At 3) (At 3) ∷ reserve_is 850001 (At 4) (At 4) ∷ reserve_is 990001 Beyond Beyond ∷
+    reserve_is 850000 (Some 3) (Some 3) ∷ reserve_is 850001 (Some 4) (Some 4) ∷ reserve_is 990001 None None ∷
     layer_is 2 5 500000000000 500000000000 ∷ [])
 
 -- the same without contract 11

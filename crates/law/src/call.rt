@@ -1,5 +1,4 @@
 // What a run is made of: calls on an opened book, and their answers.
-use book::found::Found;
 use reckoning::grains::Grains;
 
 // A call with its arguments; all calls of a run are lent the same places.
@@ -31,6 +30,6 @@ pub enum Answer<V> {
     Bounds(Grains),
     Value(V),
     Chance(u64, u64),
-    Reserve(Found, Found),
+    Reserve(Option<u32>, Option<u32>),
     Layer(u64, u64),
 }

@@ -1,16 +1,14 @@
 -- Answers in words.
 use Rattle.std.specs.Prelude.{ℕ, List, ◌∷◌, ◌++◌, Some, None, codes, decimal, Option, Ok, Err, Result}
-use Rattle.book.specs.declared.found.Found.{Found}
-use Rattle.book.specs.declared.found.Found.TheVariants.{At, Beyond}
 use Rattle.book.specs.declared.refusal.Refusal.{Refusal}
 use Rattle.book.specs.Refusals.{number_of}
 use Rattle.law.specs.declared.call.Answer.{Answer}
 use Rattle.law.specs.declared.call.Answer.TheVariants.{Done, Bounds, Value, Chance, Reserve, Layer}
 
 -- a level, or beyond
-abbrev pub level_said : Found → List ℕ
-level_said (At k) = decimal k
-level_said Beyond = codes "beyond"
+abbrev pub level_said : Option ℕ → List ℕ
+level_said (Some k) = decimal k
+level_said None = codes "beyond"
 
 -- a count of claims, or none
 abbrev pub count_said : Option ℕ → List ℕ

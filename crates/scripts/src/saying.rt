@@ -2,7 +2,6 @@
 ghost use Rattle.std.specs.Prelude.{◌≡◌, [], ◌∷◌, ◌++◌, Some, OnOk};
 ghost use Rattle.scripts.specs.Said.{level_said, count_said, refusal_said, said};
 
-use book::found::Found;
 use book::refusal::Refusal;
 use law::call::Answer;
 use std::alloc::AllocError;
@@ -10,15 +9,15 @@ use std::fmt;
 
 // A level, or beyond.
 #[derive(Clone, Copy, Debug)]
-pub struct Level(pub Found);
+pub struct Level(pub Option<u32>);
 
 impl fmt::Display for Level {
     ghost output = { λ level. Some (level_said level.0) };
 
     fn fmt<W: fmt::Write>(&self, f: &mut fmt::Formatter<W>) -> fmt::Result {
         match self.0 {
-            Found::At(level) => write!(f, "{level}"),
-            Found::Beyond => write!(f, "beyond"),
+            Some(level) => write!(f, "{level}"),
+            None => write!(f, "beyond"),
         }
     }
 }

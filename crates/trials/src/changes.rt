@@ -1,6 +1,5 @@
 // Strike, re-rate and reserve on the worked book, and on places that others wrote to.
 use book::book::Book;
-use book::found::Found;
 use book::refusal::Refusal;
 use reckoning::claims::Claims;
 use reckoning::grains::Grains;
@@ -82,15 +81,15 @@ fn reserve_is_the_least_level_that_reaches(rt: HostRuntime) -> Result<(), Fail> 
     let book = worked(rt.alloc(), &mut levels, &mut bounds, &mut values)?;
     assert_eq!(rt;
         book.reserve::<Claims>(850_000, &levels, &bounds, &values)?,
-        (Found::At(3), Found::At(3))
+        (Some(3), Some(3))
     );
     assert_eq!(rt;
         book.reserve::<Claims>(850_001, &levels, &bounds, &values)?,
-        (Found::At(4), Found::At(4))
+        (Some(4), Some(4))
     );
     assert_eq!(rt;
         book.reserve::<Claims>(990_001, &levels, &bounds, &values)?,
-        (Found::Beyond, Found::Beyond)
+        (None, None)
     );
     let none = book.reserve::<Claims>(0, &levels, &bounds, &values);
     assert!(rt; matches!(none, Err(Refusal::Confidence)));

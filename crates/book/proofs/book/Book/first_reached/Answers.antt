@@ -35,12 +35,12 @@ returns g c = λ test answers.
       | in_default w ↦
           let steps = w.in_default.ensures.steps in
           let end : b.kept ≤ n = omega (arith, ap length c.loop-i.invariant.0, length-drop n front, length-take b.kept levels) in
-          subst First (sym w.found-is) (λ j l. c.loop-i.invariant.2 test answers j (omega arith))
+          subst First (sym w.result-is) (λ j l. c.loop-i.invariant.2 test answers j (omega arith))
       | in-Some+then-passes w ↦
           let steps = w.in-Some.ensures.steps in
           let next = next_is front (iter_rest (enumerate_source c.next.new.self)) n w.in-Some.level.now (sym steps.0 ∙ c.loop-i.invariant.0) in
           let inside : n < b.kept = omega (arith, length-take b.kept levels) in
           let here : true ≡ test (mix_beside b rows n) =
           sym w.if-passes.true ∙ answers w.chance_at.result w.passes.result w.passes.ensures ∙ ap test w.chance_at.ensures.value ∙ ap (λ (k : ℕ). test (mix_beside b rows k)) steps.1 in
-          subst First (sym w.found-is) (n, inside, sym (get_or-take b.kept levels n 0 inside) ∙ next.1, sym here, c.loop-i.invariant.2 test answers)
+          subst First (sym w.result-is) (n, inside, sym (get_or-take b.kept levels n 0 inside) ∙ next.1, sym here, c.loop-i.invariant.2 test answers)
     ]

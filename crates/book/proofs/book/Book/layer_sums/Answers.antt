@@ -8,7 +8,7 @@ use Rattle.book.specs.Plain.{losses}
 use Rattle.book.specs.Pricing.{mix_lower, mix_upper, layer_low, layer_high}
 use Rattle.book.proofs.Reaches.{reached_zero}
 use Rattle.book.proofs.Readings.{levels_picked, chance_held}
-use Rattle.book.proofs.Stretches.{Ahead, no_levels, come_none, come_more, come_all, stretch_more, stretch_within, stretch_order, ahead_none, stretch_even, ahead_more, ahead_all}
+use Rattle.book.proofs.Stretches.{Ahead, no_levels, come_none, come_more, come_all, stretch_kept, stretch_more, stretch_within, stretch_order, ahead_none, stretch_even, ahead_more, ahead_all}
 use Rattle.book.proofs.book.Book.layer_sums.Goals as goal
 
 pub loop-i-init : goal.loop-i-init
@@ -49,7 +49,7 @@ loop-i-preserved c =
     let a = c.loop-i.at in
     let t = c.args.to in
     let end = c.end_of_stretch-end.result in
-    let is-end = c.end_of_stretch-end.ensures in
+    let is-end = c.end_of_stretch-end.ensures ∙ stretch_kept levels b.kept (c.loop-i.i + 1) a t (omega arith) in
     let told = c.chance_at-told.result in
     let u = 1000000000000 - told.upper in
     let v = 1000000000000 - told.lower in
