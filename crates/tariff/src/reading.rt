@@ -15,7 +15,7 @@ use crate::refusal::{BookFault, FileFault, LineFault};
 use book::book::Book;
 use book::entering::Entered;
 use book::opening::Opened;
-use lines::fault::{LineKind, line_kind};
+use lines::fault::LineKind;
 use lines::line::read_line;
 use lines::trailer::{Trailer, read_trailer};
 use reckoning::grains::Grains;
@@ -45,7 +45,7 @@ fn due_share(body: &[u8], place: usize) -> Result<(u32, usize), FileFault>
     if place >= body.len() {
         return Err(FileFault::Shares(body.len()));
     }
-    match line_kind(body[place]) {
+    match LineKind::from(body[place]) {
         LineKind::Contract => Err(FileFault::Shares(body.len())),
         LineKind::Share | LineKind::Trailer | LineKind::Other => {
             let share = share_line(body, place)?;
