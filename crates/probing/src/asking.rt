@@ -89,11 +89,7 @@ impl Probe {
         };
         match self.read(handed, &file[..]) {
             Some(Ok(_)) => Ok(format!(in heap; "ok")?),
-            Some(Err(fault)) => {
-                let number = fault.number();
-                let place = fault.place();
-                Ok(format!(in heap; "refused {number} at {place}")?)
-            }
+            Some(Err(fault)) => Ok(format!(in heap; "{fault}")?),
             None => Err(Halt::NoCall(Wrong::Places)),
         }
     }
