@@ -18,7 +18,7 @@ use Rattle.tariff.specs.Filed.{declines_entry, ReadWhole, OpeningDeclined, LineD
 use Rattle.tariff.specs.Files.{numbers_of, contracts_text}
 use Rattle.tariff.specs.Forms.{trailer_at, part, FormWrong}
 use Rattle.tariff.specs.Grammar.{lines_text}
-use Rattle.tariff.specs.Reading.{MayCome, ToldOfForm}
+use Rattle.tariff.specs.Reading.{MayCome}
 use Rattle.tariff.specs.Refusals.{telling}
 use Rattle.tariff.proofs.ContractLines.{lines_text_append}
 use Rattle.tariff.proofs.Filing.{part_length}
@@ -71,32 +71,27 @@ entering_numbers h p e n fit is =
     (sym skipped ∙ is)
 
 -- a fault of the form is told by 1 to 4, within the file
-pub fault_told : (file : List ℕ) (e : FileFault) → FormWrong file e → ToldOfForm (length file) e
-fault_told file Length wrong = record { from_1 = omega arith; to_4 = omega arith; place = omega arith }
-fault_told file (Trailer p) wrong = let told = wrong.1 in record { from_1 = omega arith; to_4 = omega arith; place = omega arith }
-fault_told file (Line (Share p w)) wrong =
+form_comes : (file : List ℕ) (e : FileFault) → FormWrong file e → MayCome (length file) e
+form_comes file Length wrong = record { from_1 = omega arith; to_13 = omega arith; not_10 = λ z. omega arith; place = omega arith }
+form_comes file (Trailer p) wrong = let told = wrong.1 in record { from_1 = omega arith; to_13 = omega arith; not_10 = λ z. omega arith; place = omega arith }
+form_comes file (Line (Share p w)) wrong =
     let inside = wrong.wrong.1.before.inside in
-    record { from_1 = omega arith; to_4 = omega arith; place = omega (arith, length_body file) }
-fault_told file (Line (Contract p w)) wrong =
+    record { from_1 = omega arith; to_13 = omega arith; not_10 = λ z. omega arith; place = omega (arith, length_body file) }
+form_comes file (Line (Contract p w)) wrong =
     let t = wrong.trailer in
     let inside = wrong.wrong.some in
     let told = wrong.told in
     record {
       from_1 = omega arith;
-      to_4 = omega arith;
+      to_13 = omega arith;
+      not_10 = λ z. omega arith;
       place = omega (arith, length-take (trailer_at file - t.place) (drop t.place file), length-drop t.place file);
     }
-fault_told file (Shares p) wrong =
+form_comes file (Shares p) wrong =
     let told = wrong.wrong.0 in
-    record { from_1 = omega arith; to_4 = omega arith; place = omega (arith, length_body file) }
-fault_told file (Count p) wrong = let told = wrong.told in record { from_1 = omega arith; to_4 = omega arith; place = omega arith }
-fault_told file (Book f) wrong = absurd wrong
-
-form_comes : (file : List ℕ) (e : FileFault) → FormWrong file e → MayCome (length file) e
-form_comes file e wrong =
-    let told = fault_told file e wrong in
-    let few = told.to_4 in
-    record { from_1 = told.from_1; to_13 = omega arith; not_10 = λ z. omega arith; place = told.place }
+    record { from_1 = omega arith; to_13 = omega arith; not_10 = λ z. omega arith; place = omega (arith, length_body file) }
+form_comes file (Count p) wrong = let told = wrong.told in record { from_1 = omega arith; to_13 = omega arith; not_10 = λ z. omega arith; place = omega arith }
+form_comes file (Book f) wrong = absurd wrong
 
 module _ {V : Type 0} (ops : Operations V) (h : Handed) (file : List ℕ) (x y : State V) where
   opening_comes : (f : BookFault) → OpeningDeclined h file x y f → MayCome (length file) (Book f)

@@ -1,23 +1,21 @@
 -- What the answers tell in short: a number, and a place that lies within the file.
-use Rattle.std.proofs.Common.{ℕ, ◌+◌, ◌<◌, ◌≤◌, List, length, MatchResult, Ok, Err, Result, arith}
+use Rattle.std.proofs.Common.{ℕ, ◌+◌, ◌<◌, ◌≤◌, List, length, arith}
 use Rattle.book.specs.Plain.{Entry}
-use Rattle.tariff.specs.declared.refusal.FileFault.{FileFault}
 use Rattle.lines.specs.declared.trailer.Trailer as trailers
 use Rattle.tariff.specs.Files.{numbers_of}
-use Rattle.tariff.specs.Forms.{part, FormWrong}
+use Rattle.tariff.specs.Forms.{part}
 use Rattle.tariff.specs.Grammar.{LinesFrom}
-use Rattle.tariff.specs.Reading.{ToldOfForm, LineOf, Formed, FormedWith}
+use Rattle.tariff.specs.Reading.{LineOf, Formed, FormedWith}
 use Rattle.lines.proofs.Lines.{length_line_text}
-use Rattle.tariff.proofs.Declined.{fault_told}
 use Rattle.tariff.proofs.Filing.{lines_from_contracts, place_inside}
 
 -- where the C line of a contract stands, the walk goes on behind it
 pub walks_on : (part : List ℕ) (n place next : ℕ) (e : Entry) → LineOf part n place next e → (place < next) × (next ≤ length part) × LinesFrom part next 67 n
 walks_on part n place next e line = let end = line.end in let long = length_line_text 67 (numbers_of e) in (omega arith, line.inside, line.rest)
 
--- the form in short: right with some shares, or told by 1 to 4
-pub form_told : (file shares : List ℕ) (r : Result trailers.Trailer FileFault) → MatchResult r (FormedWith file shares) (FormWrong file) → MatchResult r (Formed file) (ToldOfForm (length file))
-form_told file shares (Ok t) (entries, form) =
+-- what the form tells in short
+pub form_told : (file shares : List ℕ) (t : trailers.Trailer) → FormedWith file shares t → Formed file t
+form_told file shares t (entries, form) =
     let ends = form.whole.before.ends in
     let fit = ends.trailer.scenarios_fit in
     record {
@@ -27,4 +25,3 @@ form_told file shares (Ok t) (entries, form) =
       inside = place_inside file t _ entries form;
       contracts = lines_from_contracts (part file t) (2 + t.scenarios) entries form.whole.contracts;
     }
-form_told file shares (Err e) wrong = fault_told file e wrong

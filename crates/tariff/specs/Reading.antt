@@ -144,9 +144,3 @@ pub record MayCome (most : ℕ) (e : FileFault) : Type 0 where
   pub to_13 : (telling e).number ≤ 13
   pub not_10 : (telling e).number ≡ 10 → ⊥
   pub place : (telling e).place ≤ most
-
--- those of a file whose form is wrong
-pub record ToldOfForm (most : ℕ) (e : FileFault) : Type 0 where
-  pub from_1 : 1 ≤ (telling e).number
-  pub to_4 : (telling e).number ≤ 4
-  pub place : (telling e).place ≤ most

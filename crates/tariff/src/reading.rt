@@ -7,7 +7,7 @@ ghost use Rattle.tariff.specs.Filed.{ReadsFile};
 ghost use Rattle.tariff.specs.Forms.{SharesRight, SharesWrong, FormWrong};
 ghost use Rattle.tariff.specs.Grammar.{LinesFrom};
 ghost use Rattle.tariff.specs.Refusals.{telling};
-ghost use Rattle.tariff.specs.Reading.{ToldOfForm, ReadsShare, ReadsDue, ReadsContractLine, Counts, Formed, FormedWith, EntersLine, EntersPart, MayCome};
+ghost use Rattle.tariff.specs.Reading.{ReadsShare, ReadsDue, ReadsContractLine, Counts, Formed, FormedWith, EntersLine, EntersPart, MayCome};
 
 use crate::part::ContractPart;
 use crate::refusal::{BookFault, FileFault, LineFault};
@@ -80,6 +80,7 @@ impl ContractPart<'_> {
         let mut numbers = [0u32; 11];
         let mut place = 0;
         let mut lines: usize = 0;
+        // A while, since a line itself says where the next one begins; an iterator would copy out eleven numbers for each, and keep in mind that it told a fault.
         while place < self.bytes.len() {
             place = self.line(place, &mut numbers[..count])?;
             lines += 1;
@@ -129,6 +130,7 @@ impl ContractPart<'_> {
         ensures { (listed book.old).contracts ≡ [] → Holds R.Reckoning.operations book.old (places_of levels.old bounds.old values.old) → EntersPart R.Reckoning.operations (handed (length levels.old) (length bounds.old) (length values.old)) self.now.bytes.now self.now.base self.now.count (state book.old levels.old bounds.old values.old) (state book.new levels.new bounds.new values.new) result }
     {
         let mut place = 0;
+        // A while, as where the lines are counted.
         while place < self.bytes.len() {
             place = self.enter_line::<R>(place, book, levels, bounds, values)?;
         }
@@ -139,17 +141,15 @@ impl ContractPart<'_> {
 // The trailer of a file whose form is right, with its shares; else what is wrong with the form.
 fn check_form(file: &[u8], shares: &mut [u32]) -> Result<Trailer, FileFault>
     requires { length shares.old ≡ 9 }
-    ensures told { MatchResult result (Formed file.now) (ToldOfForm (length file.now)) }
+    ensures formed { IfOk result (Formed file.now) }
     ensures reads { MatchResult result (FormedWith file.now shares.new) (FormWrong file.now) }
 {
     let len = file.len();
-    if len < 18 || len > 21_346 {
+    if !(18..=21_346).contains(&len) {
         return Err(FileFault::Length);
     }
     let at = len - 18;
-    let Some(trailer) = read_trailer(&file[at..]) else {
-        return Err(FileFault::Trailer(at));
-    };
+    let trailer = read_trailer(&file[at..]).ok_or(FileFault::Trailer(at))?;
     let scenarios = trailer.scenarios;
     let place = trailer.place;
     read_shares(&file[..at], place, &mut shares[..scenarios])?;
@@ -190,9 +190,9 @@ pub fn read<R: Reckoning>(
         values,
     )
     .map_err(|refusal| BookFault { place: at, refusal })?;
-    let part = &file[place..at];
+    let bytes = &file[place..at];
     let part = ContractPart {
-        bytes: part,
+        bytes,
         base: place,
         count: 2 + scenarios,
     };
