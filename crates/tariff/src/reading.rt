@@ -27,9 +27,8 @@ fn share_line(body: &[u8], place: usize) -> Result<(u32, usize), LineFault>
     ensures { ReadsShare body.now place result }
 {
     let mut share = [0u32; 1];
-    let next = read_line(body, place, b'S', &mut share).map_err(|wrong| LineFault::Share(
-        place, wrong,
-    ))?;
+    let read = read_line(body, place, b'S', &mut share);
+    let next = read.map_err(|wrong| LineFault::Share(place, wrong))?;
     Ok((share[0], next))
 }
 
@@ -37,9 +36,7 @@ fn share_line(body: &[u8], place: usize) -> Result<(u32, usize), LineFault>
 fn due_share(body: &[u8], place: usize) -> Result<(u32, usize), FileFault>
     ensures { ReadsDue body.now place result }
 {
-    let Some(first) = body.get(place) else {
-        return Err(FileFault::Shares(body.len()));
-    };
+    let first = body.get(place).ok_or(FileFault::Shares(body.len()))?;
     match LineKind::from(*first) {
         LineKind::Contract => Err(FileFault::Shares(body.len())),
         LineKind::Share | LineKind::Trailer | LineKind::Other => Ok(share_line(body, place)?),
@@ -67,9 +64,8 @@ impl ContractPart<'_> {
         ensures { ReadsContractLine self.now.bytes.now self.now.base place numbers.new result }
     {
         let byte = self.base + place;
-        read_line(self.bytes, place, b'C', numbers).map_err(|wrong| LineFault::Contract(
-            byte, wrong,
-        ))
+        let read = read_line(self.bytes, place, b'C', numbers);
+        read.map_err(|wrong| LineFault::Contract(byte, wrong))
     }
 
     // How many C lines there are; the first line that is none is told.

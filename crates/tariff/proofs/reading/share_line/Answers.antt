@@ -8,14 +8,14 @@ use Rattle.tariff.proofs.reading.share_line.Goals as goal
 
 pub returns-in_err-next : goal.returns-in_err-next
 returns-in_err-next c =
-    let kept : length c.read_line.new.numbers ≡ 1 = c.read_line.auto.numbers in
-    let m = mapped_err _ (Share c.args.place) (λ e f is. search rules) c.read_line.result c.map_err.result _ c.map_err.ensures.cases c.in_err-next.was in
-    let read = rw m.1 at c.read_line.ensures in
+    let kept : length c.read_line-read.new.numbers ≡ 1 = c.read_line-read.auto.numbers in
+    let m = mapped_err _ (Share c.args.place) (λ e f is. search rules) c.read_line-read.result c.map_err.result _ c.map_err.ensures.cases c.in_err-next.was in
+    let read = rw m.1 at c.read_line-read.ensures in
     let p = err_from_is_err_and c.from_residual.result c.from_residual.ensures.1 in
     rw (p.1, p.2, m.2) (refl, λ n line. read.reads (n ∷ []) (omega arith) line, read.fault)
 
 pub returns : goal.returns
 returns c =
-    let m = mapped_ok _ c.read_line.result c.map_err.result _ c.map_err.ensures.cases c.in_ok-next.was in
-    let read = rw m at c.read_line.ensures.reads in
-    subst (λ (xs : List ℕ). ReadsLine c.args.body.now c.args.place 83 xs (Ok c.in_ok-next.next)) (one_number c.read_line.new.numbers c.read_line.auto.numbers) read
+    let m = mapped_ok _ c.read_line-read.result c.map_err.result _ c.map_err.ensures.cases c.in_ok-next.was in
+    let read = rw m at c.read_line-read.ensures.reads in
+    subst (λ (xs : List ℕ). ReadsLine c.args.body.now c.args.place 83 xs (Ok c.in_ok-next.next)) (one_number c.read_line-read.new.numbers c.read_line-read.auto.numbers) read
