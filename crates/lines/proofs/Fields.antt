@@ -1,13 +1,12 @@
 -- The decimal digits of a number of 32 bits, read one by one.
-use Rattle.std.proofs.Common.{◌≡◌, ℕ, ◌+◌, ◌-◌, ◌*◌, ◌^◌, ◌<◌, ◌≤◌, List, length, get_or, take, decimal, sym, ap, ◌∙◌, subst, ⊎_elim, eq-zero-or-pos, pow-suc, add-one, arith}
+use Rattle.std.proofs.Common.{◌≡◌, ℕ, ◌^◌, ◌<◌, ◌≤◌, List, length, get_or, decimal, Ok, Err, Result, sym, ap, ◌∙◌, ⊎_elim, eq-zero-or-pos, arith}
+use Rattle.std.specs.Result.{OkIff, MatchResult, IsErrAnd}
 use Rattle.std.specs.Str.Parse.{AllDigits, digits_value}
 use Rattle.std.specs.Int.{IsInRange}
-use Rattle.std.specs.Char.{digit_value as digitValue}
-use Rattle.std.proofs.lemmas.Bool.Decides.{nat_tests}
-use Rattle.std.proofs.lemmas.List.{take_all}
-use Rattle.std.proofs.lemmas.Int.Digits.{digits_value_more, digits_more}
 use Rattle.std.proofs.lemmas.Str.Parse.{IsNumeralModel, numerals_by_value, tells_digits, digit_at}
 use Rattle.std.proofs.lemmas.Fmt.{decimal_nonempty, length-decimal-le, first_decimal, decimal_digit, digits_decimal, digits_value-decimal, decimal-digits_value}
+use Rattle.lines.specs.declared.fault.NumberFault.{NumberFault}
+use Rattle.lines.specs.Reads.{ReadsNumber}
 
 pub digits_with_value : IsNumeralModel (AllDigits 10) (digits_value 10)
 digits_with_value = numerals_by_value (AllDigits 10) tells_digits
@@ -35,17 +34,10 @@ field_value bs n h e = rw e (digits_value-decimal digits_with_value n (omega ari
 pub digits_are_decimal : (bs : List ℕ) → AllDigits 10 bs → 0 < length bs → (get_or bs 0 0 ≡ 48 → length bs ≡ 1) → digits_value 10 bs < 2 ^ 32 → bs ≡ decimal (digits_value 10 bs)
 digits_are_decimal bs d s z v = sym (decimal-digits_value digits_with_value bs d s z (omega arith))
 
-pub digit_value : (c : ℕ) → 48 ≤ c → c ≤ 57 → digitValue c ≡ c - 48
-digit_value c l u = grind (arith, nat_tests)
-
-pub value_of_one_more : (bs : List ℕ) (i n : ℕ) → i < length bs → 48 ≤ get_or bs i 0 → get_or bs i 0 ≤ 57 →
-    n ≡ digits_value 10 (take i bs) → AllDigits 10 (take i bs) → n < 10 ^ i →
-    (n * 10 + (get_or bs i 0 - 48) ≡ digits_value 10 (take (i + 1) bs)) × AllDigits 10 (take (i + 1) bs) × (n * 10 + (get_or bs i 0 - 48) < 10 ^ (i + 1))
-value_of_one_more bs i n lt lo hi v d b =
-    let g = digit_value (get_or bs i 0) lo hi in
-    let m = digits_value_more 10 bs i lt in
-    let p : 10 ^ (i + 1) ≡ 10 ^ i * 10 = rw add-one (pow-suc 10 i) in
-    (omega arith, digits_more 10 bs i lt d (omega arith), omega arith)
-
-pub value_of_all : (bs : List ℕ) (i n : ℕ) → length bs ≤ i → n ≡ digits_value 10 (take i bs) → AllDigits 10 (take i bs) → (n ≡ digits_value 10 bs) × AllDigits 10 bs
-value_of_all bs i n l v d = let e = take_all i bs l in (v ∙ ap (digits_value 10) e, subst (AllDigits 10) e d)
+-- what is read of a field of digits with this value, once that is brought to 32 bits
+pub value_read : {E : Type 0} (Q : E → NumberFault → Type 0) (field : List ℕ) (n : ℕ) (fits : Result ℕ E) (r : Result ℕ NumberFault) →
+    (n < 2 ^ 32 → field ≡ decimal n) → n ≡ digits_value 10 field → OkIff fits (n < 2 ^ 32) n →
+    MatchResult fits (λ m. r ≡ Ok m) (λ e. IsErrAnd r (Q e)) → ReadsNumber field r
+value_read Q field n (Ok m) r d v o e = rw (e, o.1) (o.0, d o.0)
+value_read Q field n (Err x) (Ok m) d v o e = absurd e
+value_read Q field n (Err x) (Err y) d v o e = λ m h f. let w = field_value field m h f in o (omega arith)

@@ -1,6 +1,7 @@
 -- The numbers of a line: each is ended by the byte behind it, so that a line has one reading.
-use Rattle.std.proofs.Common.{◌≡◌, ℕ, ◌+◌, ◌-◌, ◌^◌, ◌<◌, ◌≤◌, List, [], ◌∷◌, ◌++◌, length, get_or, take, drop, set, decimal, sym, refl, ap, ◌∙◌, subst, inl, inr, ⊎_elim, append_assoc, arith, length-append}
-use Rattle.std.specs.List.{AllByRecursion}
+use Rattle.std.proofs.Common.{◌≡◌, ℕ, ◌+◌, ◌-◌, ◌^◌, ◌<◌, ◌≤◌, List, [], ◌∷◌, ◌++◌, length, get_or, take, drop, set, decimal, min, Some, None, Option, MatchOption, unwrap_or, IfErr, sym, refl, ap, ◌∙◌, subst, inl, inr, ⊎_elim, append_assoc, arith, length-append, length-drop, get_or-drop}
+use Rattle.std.specs.Option.{ok_or}
+use Rattle.std.specs.List.{AllByRecursion, AllWithin, HoldsAt}
 use Rattle.std.proofs.ByRecursion.{All-get_or, All-push}
 use Rattle.std.proofs.lemmas.List.{get_or_append_left, get_or_push, append-nil, length_push, take_more_set, take_all, length-take-le, drop_more, drop_all}
 use Rattle.std.proofs.lemmas.Bool.{cases_lt, cases_order}
@@ -8,7 +9,7 @@ use Rattle.std.proofs.lemmas.Fmt.{decimal_injective}
 use Rattle.lines.specs.declared.fault.Malformed.{Malformed}
 use Rattle.lines.specs.declared.fault.Malformed.TheVariants.{Letter, NoSpace, Number, NoEnd}
 use Rattle.lines.specs.Places.{Stands}
-use Rattle.lines.specs.Reads.{EndsField, FieldEnd, EndedNumber, SpacedFault, FrontAt, FaultInLine, LineAt}
+use Rattle.lines.specs.Reads.{EndsField, FieldEnd, EndedNumber, SpacedFault, FrontAt, FaultInLine, LineAt, ReadsLine}
 use Rattle.lines.specs.Texts.{numbers_text, line_text}
 use Rattle.lines.proofs.Fields.{field_has_digits}
 use Rattle.lines.proofs.Standing.{stands_within, stands_front, stands_rest, stands_joined, stands_reads, apart_by_first, part_stands}
@@ -18,6 +19,25 @@ ends_apart b h e = ⊎_elim (λ (x : b ≡ 32). omega arith) (λ (x : b ≡ 10).
 
 field_end_after : (bytes : List ℕ) (from end : ℕ) → FieldEnd bytes from end → from ≤ length bytes → from ≤ end
 field_end_after bytes from end f h = ⊎_elim (λ (x : end < length bytes). f.after x) (λ (x : length bytes ≤ end). omega arith) (cases_lt end (length bytes))
+
+none_before : (bytes : List ℕ) (from m i : ℕ) → m ≤ from → AllWithin (λ b. EndsField b → ⊥) (drop m bytes) 0 i →
+    (k : ℕ) → from ≤ k → k < m + i → EndsField (get_or bytes k 0) → ⊥
+none_before bytes from m i h a k l u e =
+    let z : m + (k - m) ≡ k = omega arith in
+    a (k - m) 0 (omega arith) (omega arith) (subst EndsField (ap (λ (j : ℕ). get_or bytes j 0) (sym z) ∙ sym (get_or-drop m bytes (k - m) 0)) e)
+
+-- a field ends where the first byte that ends one is found
+pub field_end_found : (bytes : List ℕ) (from m : ℕ) (r : Option ℕ) → m ≡ min from (length bytes) →
+    MatchOption r (AllWithin (λ b. EndsField b → ⊥) (drop m bytes) 0 (length (drop m bytes)))
+    (λ i. (i < length (drop m bytes)) × HoldsAt EndsField (drop m bytes) i × AllWithin (λ b. EndsField b → ⊥) (drop m bytes) 0 i) →
+    FieldEnd bytes from (m + unwrap_or r (length (drop m bytes)))
+field_end_found bytes from m None e a =
+    let l = length-drop m bytes in
+    record { within = omega arith; after = λ n. omega arith; inside = none_before bytes from m _ (omega arith) a; stops = λ n. absurd (omega arith) }
+field_end_found bytes from m (Some i) e f =
+    let l = length-drop m bytes in
+    let h = f.0 in
+    record { within = omega arith; after = λ n. omega arith; inside = none_before bytes from m i (omega arith) f.2; stops = λ n. subst EndsField (get_or-drop m bytes i 0) (f.1 0) }
 
 -- the bytes of an ended number, and the byte behind them
 module _ (bytes : List ℕ) (from n mark : ℕ) (small : n < 2 ^ 32) (ends : EndsField mark) (s : Stands bytes from (decimal n ++ (mark ∷ []))) where
@@ -62,9 +82,6 @@ ended_field bytes place end n f x =
     let e = field_reaches bytes (place + 1) n x.mark x.small x.ends s end f in
     let k : end - (place + 1) ≡ length (decimal n) = omega arith in
     ap (λ (i : ℕ). take i (drop (place + 1) bytes)) k ∙ stands_front bytes (place + 1) (decimal n) (x.mark ∷ []) s
-
-pub no_space_no_number : (bytes : List ℕ) (place : ℕ) → (Stands bytes place (32 ∷ []) → ⊥) → (n : ℕ) → EndedNumber bytes place n → ⊥
-no_space_no_number bytes place h n x = h (stands_front bytes place (32 ∷ []) (decimal n ++ (x.mark ∷ [])) x.stands)
 
 -- the digits between a space and the end of the field
 pub spaced_stands : (bytes : List ℕ) (place end n : ℕ) → Stands bytes place (32 ∷ []) → FieldEnd bytes (place + 1) end →
@@ -166,6 +183,15 @@ line_read bytes place at letter i xs h a s e t =
       },
       omega (arith, e', length-append front (10 ∷ [])),
     )
+
+-- what is read of a line once its end is looked for behind all of its numbers
+pub line_ends : (bytes : List ℕ) (place letter at : ℕ) (ns : List ℕ) (end : Option ℕ) →
+    MatchOption end (Stands bytes at (10 ∷ []) → ⊥) (λ next. (next ≡ at + 1) × (at < length bytes) × Stands bytes at (10 ∷ [])) →
+    (Stands bytes at (10 ∷ []) → LineAt bytes place letter ns × (at + 1 ≡ place + length (line_text letter ns))) →
+    ((ms : List ℕ) → length ms ≡ length ns → LineAt bytes place letter ms → Stands bytes at (10 ∷ [])) → FrontAt bytes place letter (length ns) at →
+    ReadsLine bytes place letter ns (ok_or end NoEnd) × IfErr (ok_or end NoEnd) (FaultInLine bytes place letter (length ns))
+line_ends bytes place letter at ns None b l o f = (λ ms n x. b (o ms n x), (at, f, b))
+line_ends bytes place letter at ns (Some next) b l o f = let p = l b.2 in ((p.0, b.0 ∙ p.1, omega (arith, b.0, b.1)), tt)
 
 -- bytes have one reading as the numbers of a line
 pub same_numbers : (bytes : List ℕ) (at : ℕ) (ns ms : List ℕ) → AllByRecursion (λ k. k < 2 ^ 32) ns → AllByRecursion (λ k. k < 2 ^ 32) ms →

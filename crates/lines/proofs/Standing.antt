@@ -1,9 +1,8 @@
 -- Texts that stand in bytes.
-use Rattle.std.proofs.Common.{◌≡◌, ℕ, ◌+◌, ◌-◌, ◌<◌, ◌≤◌, eqb, ltb, List, [], ◌∷◌, ◌++◌, length, get_or, take, drop, MatchBool, sym, refl, ap, ◌∙◌, ⊎_elim, arith, length-append, length-drop, length-take, take-add}
-use Rattle.std.proofs.lemmas.List.{length-take-le, take-take, take_at, drop_at, drop-take, drop-drop, take-append-drop, drop_more}
+use Rattle.std.proofs.Common.{◌≡◌, ℕ, ◌+◌, ◌-◌, ◌<◌, ◌≤◌, List, ◌∷◌, ◌++◌, length, get_or, take, drop, sym, refl, ap, ◌∙◌, arith, length-append, length-drop, length-take, take-add}
+use Rattle.std.proofs.lemmas.List.{take-take, take_at, drop_at, drop-take, drop-drop, take-append-drop}
 use Rattle.std.proofs.lemmas.List.Prefix.{at_reads}
-use Rattle.std.proofs.lemmas.Bool.{eq-eqb, ne_eqb, le-ltb, cases_eq}
-use Rattle.lines.specs.Places.{Stands, written}
+use Rattle.lines.specs.Places.{Stands}
 
 -- what stands in the bytes lies within them
 pub stands_within : (bytes : List ℕ) (place : ℕ) (text : List ℕ) → Stands bytes place text → 0 < length text → place + length text ≤ length bytes
@@ -41,41 +40,12 @@ pub apart_by_first : (bytes : List ℕ) (place a b : ℕ) (xs ys : List ℕ) →
 apart_by_first bytes place a b xs ys h s t =
     h (sym (stands_reads bytes place (a ∷ xs) s 0 (omega arith)) ∙ stands_reads bytes place (b ∷ ys) t 0 (omega arith))
 
--- one byte
-pub byte_stands : (bytes : List ℕ) (place b : ℕ) → place < length bytes → get_or bytes place 0 ≡ b → Stands bytes place (b ∷ [])
-byte_stands bytes place b h e = ap (take 1) (drop_more bytes place 0 h) ∙ ap (λ (x : ℕ). x ∷ []) e
-
-pub byte_apart : (bytes : List ℕ) (place b : ℕ) → (place < length bytes → get_or bytes place 0 ≡ b → ⊥) → Stands bytes place (b ∷ []) → ⊥
-byte_apart bytes place b h s =
-    let w = stands_within bytes place (b ∷ []) s (omega arith) in
-    let z : place + 0 ≡ place = omega arith in
-    h (omega arith) (ap (λ (i : ℕ). get_or bytes i 0) (sym z) ∙ stands_reads bytes place (b ∷ []) s 0 (omega arith))
-
-when_equal : (a b : ℕ) (P Q : Type 0) → (a ≡ b → P) → ((a ≡ b → ⊥) → Q) → MatchBool (eqb a b) P Q
-when_equal a b P Q p q =
-    ⊎_elim
-    (λ (e : a ≡ b). rw (eq-eqb a b e) (p e))
-    (λ (e : a ≡ b → ⊥). rw (ne_eqb a b e) (q e))
-    (cases_eq a b)
-
-pub byte_decided : (bytes : List ℕ) (place b : ℕ) → place < length bytes → MatchBool (eqb (get_or bytes place 0) b) (Stands bytes place (b ∷ [])) (Stands bytes place (b ∷ []) → ⊥)
-byte_decided bytes place b h = when_equal (get_or bytes place 0) b _ _ (byte_stands bytes place b h) (λ e. byte_apart bytes place b (λ l. e))
-
-pub no_byte_past : (bytes : List ℕ) (place b : ℕ) → length bytes ≤ place → MatchBool (ltb place (length bytes)) (Stands bytes place (b ∷ [])) (Stands bytes place (b ∷ []) → ⊥)
-no_byte_past bytes place b h = rw (le-ltb place (length bytes) h) (byte_apart bytes place b (λ l e. omega arith))
-
 -- the part of the bytes between two places
 pub part_stands : (bytes : List ℕ) (from end : ℕ) (text : List ℕ) → from ≤ end → end ≤ length bytes → take (end - from) (drop from bytes) ≡ text →
     (end ≡ from + length text) × Stands bytes from text
 part_stands bytes from end text h l e =
     let n : length text ≡ end - from = omega (arith, ap length e, length-take (end - from) (drop from bytes), length-drop from bytes) in
     (omega arith, ap (λ (k : ℕ). take k (drop from bytes)) n ∙ e)
-
--- a text that is put stands where it was put
-pub written_stands : (bytes : List ℕ) (place : ℕ) (text : List ℕ) → place ≤ length bytes → Stands (written bytes place text) place text
-written_stands bytes place text h =
-    let l = length-take-le place bytes h in
-    ap (take (length text)) (drop_at (take place bytes) (text ++ drop (place + length text) bytes) place l) ∙ take_at text (drop (place + length text) bytes) (length text) refl
 
 -- texts of one length that stand at one place are equal
 pub same_standing : (bytes : List ℕ) (place : ℕ) (a b : List ℕ) → length a ≡ length b → Stands bytes place a → Stands bytes place b → a ≡ b

@@ -1,6 +1,6 @@
 -- What the readers of a number and of a line answer.
-use Rattle.std.specs.Prelude.{◌≡◌, ℕ, ◌+◌, ◌-◌, ◌^◌, ◌<◌, ◌≤◌, cond, ◌⊎◌, List, [], ◌∷◌, ◌++◌, length, take, drop, Ok, Err, decimal, Result, ◌==◌, ◌≢◌, slice_index}
-use Rattle.std.specs.Str.Parse.{digits_value}
+use Rattle.std.specs.Prelude.{◌≡◌, ℕ, ◌+◌, ◌-◌, ◌^◌, ◌<◌, ◌≤◌, cond, ◌⊎◌, List, [], ◌∷◌, ◌++◌, length, take, drop, Some, None, Option, Ok, Err, decimal, Result, ◌==◌, ◌≢◌, slice_index}
+use Rattle.std.specs.Str.Parse.{AllDigits, digits_value}
 use Rattle.std.specs.List.{AllByRecursion}
 use Rattle.lines.specs.declared.fault.NumberFault.{NumberFault}
 use Rattle.lines.specs.declared.fault.NumberFault.TheVariants.{Empty, LeadingZero, NoDigit, TooLarge}
@@ -22,6 +22,11 @@ FaultOf field Empty = length field ≡ 0
 FaultOf field LeadingZero = (slice_index field 0 ≡ 48) × (1 < length field)
 FaultOf field NoDigit = (k : ℕ) × (k < length field) × ((slice_index field k < 48) ⊎ (57 < slice_index field k))
 FaultOf field TooLarge = (10 < length field) ⊎ (2 ^ 32 ≤ digits_value 10 field)
+
+-- the value of digits, leading zeros and all, or a byte that is no digit
+abbrev pub ReadsValue : List ℕ → Option ℕ → Type 0
+ReadsValue field (Some n) = AllDigits 10 field × (n ≡ digits_value 10 field)
+ReadsValue field None = FaultOf field NoDigit
 
 -- a field ends before a space or a line end
 abbrev pub EndsField : ℕ → Type 0

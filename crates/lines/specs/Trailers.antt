@@ -1,5 +1,5 @@
 -- The trailer of a file, and what its reader answers.
-use Rattle.std.specs.Prelude.{◌≡◌, ℕ, ◌^◌, ◌<◌, List, ◌∷◌, length, Some, None, Option, ◌≢◌}
+use Rattle.std.specs.Prelude.{◌≡◌, ℕ, ◌^◌, ◌<◌, List, ◌∷◌, Some, None, Option}
 use Rattle.lines.specs.declared.trailer.Trailer.{Trailer}
 use Rattle.lines.specs.Places.{Stands}
 use Rattle.lines.specs.Texts.{padded, trailer_text}
@@ -17,12 +17,7 @@ abbrev pub ReadsTrailer : List ℕ → Option Trailer → Type 0
 ReadsTrailer bytes (Some t) = TrailerOf bytes t.ceiling t.scenarios t.contracts t.place
 ReadsTrailer bytes None = (ceiling scenarios contracts place : ℕ) → TrailerOf bytes ceiling scenarios contracts place → ⊥
 
--- the number that a field of digits writes, leading zeros and all
-abbrev pub ReadsDigits : List ℕ → Option ℕ → Type 0
-ReadsDigits field (Some n) = (n < 10 ^ length field) × (field ≡ padded (length field) n)
-ReadsDigits field None = (n : ℕ) → n < 10 ^ length field → field ≢ padded (length field) n
-
--- the same behind a space, of so many digits at a place
+-- the number that so many digits behind a space at a place write, leading zeros and all
 abbrev pub ReadsSpacedDigits : List ℕ → ℕ → ℕ → Option ℕ → Type 0
 ReadsSpacedDigits bytes place count (Some n) = (n < 10 ^ count) × Stands bytes place (32 ∷ padded count n)
 ReadsSpacedDigits bytes place count None = (n : ℕ) → n < 10 ^ count → Stands bytes place (32 ∷ padded count n) → ⊥

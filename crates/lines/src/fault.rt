@@ -3,7 +3,7 @@ ghost use Rattle.std.specs.Prelude.{◌≡◌};
 ghost use Rattle.lines.specs.declared.fault.Malformed.TheVariants.{Number};
 ghost use Rattle.lines.specs.Reads.{kind_of};
 
-#[derive(Clone, Copy, Debug, PartialEq, Drop)]
+#[derive(Clone, Copy, Debug, PartialEq, Eq)]
 pub enum NumberFault {
     Empty,
     LeadingZero,
@@ -11,7 +11,7 @@ pub enum NumberFault {
     TooLarge,
 }
 
-#[derive(Clone, Copy, Debug, PartialEq, Drop)]
+#[derive(Clone, Copy, Debug, PartialEq, Eq)]
 pub enum Malformed {
     Letter,
     NoSpace,
@@ -27,7 +27,7 @@ impl From<NumberFault> for Malformed {
     }
 }
 
-#[derive(Clone, Copy, Debug, PartialEq, Drop)]
+#[derive(Clone, Copy, Debug, PartialEq, Eq)]
 pub enum LineKind {
     Share,
     Contract,
@@ -36,13 +36,15 @@ pub enum LineKind {
 }
 
 // What a line is, by its first byte.
-pub fn line_kind(first: u8) -> LineKind
-    ensures value { result ≡ kind_of first }
-{
-    match first as char {
-        'S' => LineKind::Share,
-        'C' => LineKind::Contract,
-        'T' => LineKind::Trailer,
-        _ => LineKind::Other,
+impl From<u8> for LineKind {
+    ghost from_gives = { λ first r. r ≡ kind_of first };
+
+    fn from(first: u8) -> LineKind {
+        match first as char {
+            'S' => LineKind::Share,
+            'C' => LineKind::Contract,
+            'T' => LineKind::Trailer,
+            _ => LineKind::Other,
+        }
     }
 }

@@ -2,7 +2,7 @@
 ghost use Rattle.std.specs.Prelude.{length, IfErr};
 ghost use Rattle.lines.specs.Reads.{ReadsSpaced, ReadsLine, SpacedFault, FaultInLine};
 
-use crate::bytes::has_byte;
+use crate::bytes::behind;
 use crate::fault::Malformed;
 use crate::number::{field_end, number};
 
@@ -17,19 +17,11 @@ pub fn read_line(
     ensures reads { ReadsLine bytes.now place letter numbers.new result }
     ensures fault { IfErr result (FaultInLine bytes.now place letter (length numbers.old)) }
 {
-    if !has_byte(bytes, place, letter) {
-        return Err(Malformed::Letter);
-    }
-    let mut at = place + 1;
+    let mut at = behind(bytes, place, letter).ok_or(Malformed::Letter)?;
     for n in numbers.iter_mut() {
-        let (value, end) = spaced_number(bytes, at)?;
-        *n = value;
-        at = end;
+        (*n, at) = spaced_number(bytes, at)?;
     }
-    if !has_byte(bytes, at, b'\n') {
-        return Err(Malformed::NoEnd);
-    }
-    Ok(at + 1)
+    behind(bytes, at, b'\n').ok_or(Malformed::NoEnd)
 }
 
 // The number behind one space, and the place behind it.
@@ -37,10 +29,8 @@ fn spaced_number(bytes: &[u8], place: usize) -> Result<(u32, usize), Malformed>
     ensures reads { ReadsSpaced bytes.now place result }
     ensures fault { IfErr result (SpacedFault bytes.now place) }
 {
-    if !has_byte(bytes, place, b' ') {
-        return Err(Malformed::NoSpace);
-    }
-    let end = field_end(bytes, place + 1);
-    let n = number(&bytes[place + 1..end])?;
+    let from = behind(bytes, place, b' ').ok_or(Malformed::NoSpace)?;
+    let end = field_end(bytes, from);
+    let n = number(&bytes[from..end])?;
     Ok((n, end))
 }

@@ -1,10 +1,11 @@
 // The last 18 bytes of a file, which tell what stands before them.
 ghost use Rattle.std.specs.Prelude.{◌+◌, ◌<◌, ◌≤◌, length};
-ghost use Rattle.lines.specs.Trailers.{ReadsDigits, ReadsSpacedDigits, ReadsTrailer};
+ghost use Rattle.lines.specs.Trailers.{ReadsSpacedDigits, ReadsTrailer};
 
-use crate::bytes::has_byte;
+use crate::bytes::behind;
+use crate::number::digits;
 
-#[derive(Clone, Copy, Debug, PartialEq, Drop)]
+#[derive(Clone, Copy, Debug, PartialEq, Eq)]
 pub struct Trailer {
     pub ceiling: u32,
     pub scenarios: usize,
@@ -19,16 +20,12 @@ pub fn read_trailer(bytes: &[u8]) -> Option<Trailer>
     if bytes.len() != 18 {
         return None;
     }
-    if !has_byte(bytes, 0, b'T') {
-        return None;
-    }
-    let ceiling = spaced_digits(bytes, 1, 5)?;
+    behind(bytes, 0, b'T')?;
+    let ceiling = spaced_digits(bytes, 1, 5)? as u32;
     let scenarios = spaced_digits(bytes, 7, 1)? as usize;
     let contracts = spaced_digits(bytes, 9, 3)? as usize;
     let place = spaced_digits(bytes, 13, 3)? as usize;
-    if !has_byte(bytes, 17, b'\n') {
-        return None;
-    }
+    behind(bytes, 17, b'\n')?;
     Some(Trailer {
         ceiling,
         scenarios,
@@ -38,29 +35,11 @@ pub fn read_trailer(bytes: &[u8]) -> Option<Trailer>
 }
 
 // The number that `count` digits behind a space write.
-fn spaced_digits(bytes: &[u8], place: usize, count: usize) -> Option<u32>
+fn spaced_digits(bytes: &[u8], place: usize, count: usize) -> Option<u64>
     requires within { place + count < length bytes.now }
-    requires few { count ≤ 9 }
+    requires few { count ≤ 10 }
     ensures reads { ReadsSpacedDigits bytes.now place count result }
 {
-    if !has_byte(bytes, place, b' ') {
-        return None;
-    }
-    let from = place + 1;
+    let from = behind(bytes, place, b' ')?;
     digits(&bytes[from..from + count])
-}
-
-// The number that digits write.
-fn digits(field: &[u8]) -> Option<u32>
-    requires few { length field.now ≤ 9 }
-    ensures reads { ReadsDigits field.now result }
-{
-    let mut n: u32 = 0;
-    for b in field {
-        if *b < b'0' || *b > b'9' {
-            return None;
-        }
-        n = n * 10 + u32::from(*b - b'0');
-    }
-    Some(n)
 }

@@ -100,11 +100,7 @@ impl Probe {
         } = self.places.lend(handed)?;
         match read::<Claims>(&mut self.book, &file[..], levels, bounds, claims) {
             Ok(_) => Ok(format!(in heap; "ok")?),
-            Err(fault) => {
-                let refused = Refused(fault.number());
-                let place = fault.place();
-                Ok(format!(in heap; "{refused} at {place}")?)
-            }
+            Err(fault) => Ok(format!(in heap; "{fault}")?),
         }
     }
 

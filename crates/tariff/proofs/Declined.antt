@@ -1,14 +1,14 @@
 -- Which numbers and places the refusals of a read can have.
-use Rattle.std.proofs.Common.{◌≡◌, ℕ, ◌-◌, ◌≤◌, Bool, false, cond, not, ◌||◌, eqb, List, [], ◌∷◌, ◌++◌, map, length, drop, IfErr, Some, None, Option, Ok, Err, Result, sym, refl, ap, ◌∙◌, subst, inl, inr, ⊎_elim, arith}
+use Rattle.std.proofs.Common.{◌≡◌, ℕ, ◌-◌, ◌≤◌, Bool, false, cond, not, ◌||◌, eqb, List, [], ◌∷◌, ◌++◌, map, length, drop, IfErr, Some, None, Ok, Err, Result, sym, refl, ap, ◌∙◌, subst, inl, inr, ⊎_elim, arith}
 use Rattle.std.specs.List.{AllByRecursion}
 use Rattle.std.proofs.lemmas.List.{length-take, length-drop, length-append, map-append, take_all}
 use Rattle.std.proofs.lemmas.Bool.{cases_Bool, cond-true, cond-false, eq-eqb}
 use Rattle.reckoning.specs.Operations.{Operations}
-use Rattle.book.specs.Declines.{Handed, places_wrong, open_sentences, enter_early, enter_sentences}
+use Rattle.book.specs.Declines.{Handed, places_wrong, open_sentences, enter_sentences}
 use Rattle.book.specs.Laid.{State}
 use Rattle.book.specs.Listed.{listed}
 use Rattle.book.specs.Plain.{Entry, Plain, opened, with_entries}
-use Rattle.book.specs.Refusals.{Sentences, first, number_of, FreeOf}
+use Rattle.book.specs.Refusals.{Sentences, first, number_of}
 use Rattle.tariff.specs.declared.reading.FileRead.{FileRead}
 use Rattle.tariff.specs.declared.refusal.BookFault.{BookFault}
 use Rattle.tariff.specs.declared.refusal.LineFault.TheVariants.{Share, Contract}
@@ -18,7 +18,7 @@ use Rattle.tariff.specs.Filed.{declines_entry, ReadWhole, OpeningDeclined, LineD
 use Rattle.tariff.specs.Files.{numbers_of, contracts_text}
 use Rattle.tariff.specs.Forms.{trailer_at, part, FormWrong}
 use Rattle.tariff.specs.Grammar.{lines_text}
-use Rattle.tariff.specs.Reading.{MayCome, ToldOfForm}
+use Rattle.tariff.specs.Reading.{MayCome}
 use Rattle.tariff.specs.Refusals.{telling}
 use Rattle.tariff.proofs.ContractLines.{lines_text_append}
 use Rattle.tariff.proofs.Filing.{part_length}
@@ -70,46 +70,28 @@ entering_numbers h p e n fit is =
     ((omega arith, omega arith, λ z. omega arith), ((omega arith, omega arith, λ z. omega arith), ((omega arith, omega arith, λ z. omega arith), ((omega arith, omega arith, λ z. omega arith), ((omega arith, omega arith, λ z. omega arith), tt)))))
     (sym skipped ∙ is)
 
--- the same where the early sentences decide all but the last number
-pub early_numbers : (h : Handed) (p : Plain) (k w : ℕ) (rs : List ℕ) (n : ℕ) → places_wrong h p ≡ false → FreeOf 13 (first (enter_early h p k w rs)) (Some n) → OfEntering n
-early_numbers h p k w rs n fit free = by (first (enter_early h p k w rs)) refl free
-  where
-    by : (early : Option ℕ) → first (enter_early h p k w rs) ≡ early → FreeOf 13 early (Some n) → OfEntering n
-    by (Some m) is e =
-        let later = elim (enter_early h p k w rs) as (λ _. Sentences) [ [] ↦ [] | s ∷ ss ↦ ss ] in
-        let skipped : first (enter_early h p k w rs) ≡ first later = ap (λ (b : Bool). cond b (Some 7) (first later)) fit in
-        first_among OfEntering later n
-        ((omega arith, omega arith, λ z. omega arith), ((omega arith, omega arith, λ z. omega arith), ((omega arith, omega arith, λ z. omega arith), ((omega arith, omega arith, λ z. omega arith), tt))))
-        (sym skipped ∙ is ∙ sym e)
-    by None is e = ⊎_elim (λ a. let z : ◌≡◌ {A = ℕ} 0 1 = cc in absurd (omega arith)) (λ b. let same : 13 ≡ n = cc in subst OfEntering same (omega arith, omega arith, λ z. omega arith)) e
-
 -- a fault of the form is told by 1 to 4, within the file
-pub fault_told : (file : List ℕ) (e : FileFault) → FormWrong file e → ToldOfForm (length file) e
-fault_told file Length wrong = record { from_1 = omega arith; to_4 = omega arith; place = omega arith }
-fault_told file (Trailer p) wrong = let told = wrong.1 in record { from_1 = omega arith; to_4 = omega arith; place = omega arith }
-fault_told file (Line (Share p w)) wrong =
+form_comes : (file : List ℕ) (e : FileFault) → FormWrong file e → MayCome (length file) e
+form_comes file Length wrong = record { from_1 = omega arith; to_13 = omega arith; not_10 = λ z. omega arith; place = omega arith }
+form_comes file (Trailer p) wrong = let told = wrong.1 in record { from_1 = omega arith; to_13 = omega arith; not_10 = λ z. omega arith; place = omega arith }
+form_comes file (Line (Share p w)) wrong =
     let inside = wrong.wrong.1.before.inside in
-    record { from_1 = omega arith; to_4 = omega arith; place = omega (arith, length_body file) }
-fault_told file (Line (Contract p w)) wrong =
+    record { from_1 = omega arith; to_13 = omega arith; not_10 = λ z. omega arith; place = omega (arith, length_body file) }
+form_comes file (Line (Contract p w)) wrong =
     let t = wrong.trailer in
     let inside = wrong.wrong.some in
     let told = wrong.told in
     record {
       from_1 = omega arith;
-      to_4 = omega arith;
+      to_13 = omega arith;
+      not_10 = λ z. omega arith;
       place = omega (arith, length-take (trailer_at file - t.place) (drop t.place file), length-drop t.place file);
     }
-fault_told file (Shares p) wrong =
+form_comes file (Shares p) wrong =
     let told = wrong.wrong.0 in
-    record { from_1 = omega arith; to_4 = omega arith; place = omega (arith, length_body file) }
-fault_told file (Count p) wrong = let told = wrong.told in record { from_1 = omega arith; to_4 = omega arith; place = omega arith }
-fault_told file (Book f) wrong = absurd wrong
-
-form_comes : (file : List ℕ) (e : FileFault) → FormWrong file e → MayCome (length file) e
-form_comes file e wrong =
-    let told = fault_told file e wrong in
-    let few = told.to_4 in
-    record { from_1 = told.from_1; to_13 = omega arith; not_10 = λ z. omega arith; place = told.place }
+    record { from_1 = omega arith; to_13 = omega arith; not_10 = λ z. omega arith; place = omega (arith, length_body file) }
+form_comes file (Count p) wrong = let told = wrong.told in record { from_1 = omega arith; to_13 = omega arith; not_10 = λ z. omega arith; place = omega arith }
+form_comes file (Book f) wrong = absurd wrong
 
 module _ {V : Type 0} (ops : Operations V) (h : Handed) (file : List ℕ) (x y : State V) where
   opening_comes : (f : BookFault) → OpeningDeclined h file x y f → MayCome (length file) (Book f)

@@ -1,5 +1,5 @@
 -- The form of a file, put together from its parts.
-use Rattle.std.proofs.Common.{◌≡◌, ℕ, ◌+◌, ◌-◌, ◌≢◌, List, ◌++◌, length, take, drop, Some, None, Err, sym, refl, ap, ◌∙◌, subst, arith}
+use Rattle.std.proofs.Common.{◌≡◌, ℕ, ◌+◌, ◌-◌, ◌≢◌, List, ◌++◌, length, take, drop, Some, None, Err, sym, refl, ◌∙◌, subst, arith}
 use Rattle.std.proofs.lemmas.List.{length-take-le, take_rest, take_at}
 use Rattle.tariff.specs.declared.refusal.LineFault.{LineFault}
 use Rattle.tariff.specs.declared.refusal.LineFault.TheVariants.{Share, Contract}
@@ -14,15 +14,9 @@ pub length_body : (file : List ℕ) → length (body file) ≡ trailer_at file
 length_body file = length-take-le (trailer_at file) file (omega arith)
 
 module _ (file : List ℕ) where
-  -- the body and the trailer as parts of the file
-  abbrev pub body_part : List ℕ
-  body_part = take (trailer_at file - 0) (drop 0 file)
-
+  -- the trailer as a part of the file
   abbrev pub trailer_part : List ℕ
   trailer_part = take (length file - trailer_at file) (drop (trailer_at file) file)
-
-  body_is : body_part ≡ body file
-  body_is = let z : trailer_at file - 0 ≡ trailer_at file = omega arith in ap (λ (k : ℕ). take k file) z
 
   pub no_trailer : ReadsTrailer trailer_part None → (c n m q : ℕ) → TrailerOf (drop (trailer_at file) file) c n m q → ⊥
   no_trailer none c n m q t = none c n m q (subst (λ (bytes : List ℕ). TrailerOf bytes c n m q) (sym (take_rest file (trailer_at file))) t)
@@ -32,9 +26,9 @@ module _ (file : List ℕ) where
     ends_in long is = record { long = long; trailer = subst (λ (bytes : List ℕ). TrailerOf bytes t.ceiling t.scenarios t.contracts t.place) (take_rest file (trailer_at file)) is }
 
     module _ (ends : EndsIn file t) where
-      pub shares_fault : (n : ℕ) (e : FileFault) → n ≡ t.scenarios → SharesWrong body_part n t.place e → FormWrong file e
+      pub shares_fault : (n : ℕ) (e : FileFault) → n ≡ t.scenarios → SharesWrong (body file) n t.place e → FormWrong file e
       shares_fault n e size wrong =
-          by e (subst (λ (k : ℕ). SharesWrong (body file) k t.place e) size (subst (λ (bytes : List ℕ). SharesWrong bytes n t.place e) body_is wrong))
+          by e (subst (λ (k : ℕ). SharesWrong (body file) k t.place e) size wrong)
         where
           by : (e : FileFault) → SharesWrong (body file) t.scenarios t.place e → FormWrong file e
           by Length x = absurd x
@@ -45,10 +39,10 @@ module _ (file : List ℕ) where
           by (Count p) x = absurd x
           by (Book f) x = absurd x
 
-      pub begins : (n : ℕ) (shares : List ℕ) → n ≡ t.scenarios → SharesRight body_part n t.place shares → Begins file t shares
+      pub begins : (n : ℕ) (shares : List ℕ) → n ≡ t.scenarios → SharesRight (body file) n t.place shares → Begins file t shares
       begins n shares size right = record {
         ends = ends;
-        lines = subst (λ (k : ℕ). SharesRight (body file) k t.place shares) size (subst (λ (bytes : List ℕ). SharesRight bytes n t.place shares) body_is right);
+        lines = subst (λ (k : ℕ). SharesRight (body file) k t.place shares) size right;
       }
 
     module _ (shares : List ℕ) (before : Begins file t shares) where

@@ -1,3 +1,4 @@
+pub mod Faults
 pub mod LineWalks
 pub mod Shares
 pub mod ContractLines

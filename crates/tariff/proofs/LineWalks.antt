@@ -1,8 +1,7 @@
 -- A walk over lines: those up to a place, and those from a place on.
-use Rattle.std.proofs.Common.{◌≡◌, ℕ, ◌+◌, ◌<◌, ◌≤◌, List, [], ◌∷◌, ◌++◌, length, take, drop, sym, refl, ap, ◌∙◌, append_assoc, arith, length-drop, take-add}
-use Rattle.std.proofs.ByRecursion.{All-push}
-use Rattle.std.proofs.lemmas.List.{append-nil, length_push, take_at, drop_at, drop-drop, take_all}
-use Rattle.tariff.specs.Grammar.{Numbers, lines_text, LinesFrom, LinesTo}
+use Rattle.std.proofs.Common.{◌≡◌, ℕ, ◌+◌, ◌<◌, List, [], ◌∷◌, ◌++◌, length, take, drop, sym, refl, ap, ◌∙◌, append_assoc, arith, length-drop, take-add}
+use Rattle.std.proofs.lemmas.List.{append-nil, take_at, drop_at, drop-drop}
+use Rattle.tariff.specs.Grammar.{lines_text, LinesFrom}
 use Rattle.lines.specs.Reads.{LineAt}
 use Rattle.lines.specs.Texts.{line_text}
 
@@ -19,24 +18,6 @@ text_more bytes letter place next nss ns before line end =
     ∙ ap (λ (t : List ℕ). lines_text letter nss ++ t) line.stands ∙ sym (lines_text_push letter nss ns)
 
 module _ (bytes : List ℕ) (letter count : ℕ) where
-  pub lines_to_none : LinesTo bytes 0 letter count 0
-  lines_to_none = ([], record { each = tt; text = refl }, refl)
-
-  -- one line more up to its end
-  pub lines_to_more : (place many next : ℕ) (ns : List ℕ) → LinesTo bytes place letter count many → LineAt bytes place letter ns → length ns ≡ count →
-      next ≡ place + length (line_text letter ns) → LinesTo bytes next letter count (many + 1)
-  lines_to_more place many next ns (nss, before, n) line size end = (
-    nss ++ (ns ∷ []),
-    record {
-      each = All-push (Numbers count) nss ns before.each (record { many = size; small = line.small });
-      text = text_more bytes letter place next nss ns before.text line end;
-    },
-    length_push nss ns ∙ ap (λ (k : ℕ). k + 1) n,
-  )
-
-  pub lines_to_all : (place many : ℕ) → length bytes ≤ place → LinesTo bytes place letter count many → LinesFrom bytes 0 letter count
-  lines_to_all place many past (nss, lines, n) = (nss, record { each = lines.each; text = sym (take_all place bytes past) ∙ lines.text })
-
   -- where bytes are left, a line stands, and lines follow it
   pub lines_from_next : (place : ℕ) → place < length bytes → LinesFrom bytes place letter count →
       (ns : List ℕ) × (length ns ≡ count) × LineAt bytes place letter ns × LinesFrom bytes (place + length (line_text letter ns)) letter count

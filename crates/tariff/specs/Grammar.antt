@@ -1,5 +1,5 @@
 -- Lines of one letter, one after the other.
-use Rattle.std.specs.Prelude.{◌≡◌, ℕ, ◌^◌, ◌<◌, List, [], ◌∷◌, ◌++◌, length, take, drop}
+use Rattle.std.specs.Prelude.{◌≡◌, ℕ, ◌^◌, ◌<◌, List, [], ◌∷◌, ◌++◌, length, drop}
 use Rattle.std.specs.List.{AllByRecursion}
 use Rattle.lines.specs.Texts.{line_text}
 
@@ -21,7 +21,3 @@ pub record Lines (bytes : List ℕ) (letter count : ℕ) (nss : List (List ℕ))
 -- from a place on, the bytes are such lines
 abbrev pub LinesFrom : List ℕ → ℕ → ℕ → ℕ → Type 0
 LinesFrom bytes place letter count = (nss : List (List ℕ)) × Lines (drop place bytes) letter count nss
-
--- up to a place, the bytes are such lines, so many of them
-abbrev pub LinesTo : List ℕ → ℕ → ℕ → ℕ → ℕ → Type 0
-LinesTo bytes place letter count many = (nss : List (List ℕ)) × Lines (take place bytes) letter count nss × (length nss ≡ many)

@@ -1,8 +1,6 @@
 -- What the parts of the file reader answer.
 use Rattle.std.specs.Prelude.{◌≡◌, ℕ, ◌+◌, ◌-◌, ◌≤◌, List, [], ◌∷◌, ◌++◌, length, take, drop, Some, None, Ok, Err, Result}
 use Rattle.reckoning.specs.Operations.{Operations}
-use Rattle.book.specs.declared.entering.Entered.{Entered}
-use Rattle.book.specs.declared.opening.Opened.{Opened}
 use Rattle.book.specs.Declines.{Handed, open_sentences}
 use Rattle.book.specs.Laid.{State, Holds, Outside}
 use Rattle.book.specs.Listed.{listed}
@@ -14,7 +12,6 @@ use Rattle.tariff.specs.declared.refusal.BookFault.{BookFault}
 use Rattle.tariff.specs.declared.refusal.FileFault.{FileFault}
 use Rattle.tariff.specs.declared.refusal.FileFault.TheVariants.{Length, Trailer, Line, Shares, Count, Book}
 use Rattle.tariff.specs.declared.reading.FileRead.{FileRead}
-use Rattle.lines.specs.declared.fault.Malformed.{Malformed}
 use Rattle.lines.specs.declared.trailer.Trailer as trailers
 use Rattle.tariff.specs.Filed.{declines_entry, EnteredAll}
 use Rattle.tariff.specs.Files.{numbers_of, contracts_text}
@@ -23,18 +20,6 @@ use Rattle.tariff.specs.Grammar.{Numbers, LinesFrom}
 use Rattle.lines.specs.Reads.{LineAt, FaultInLine, ReadsLine}
 use Rattle.tariff.specs.Refusals.{telling}
 use Rattle.lines.specs.Texts.{line_text}
-
--- the fault has that number, and its place is at most so far into the file
-pub record ToldAs (n most : ℕ) (e : FileFault) : Type 0 where
-  pub number : (telling e).number ≡ n
-  pub place : (telling e).place ≤ most
-
--- the fault of a line that the book declines
-pub record ToldOfLine (most : ℕ) (e : FileFault) : Type 0 where
-  pub from_8 : 8 ≤ (telling e).number
-  pub to_13 : (telling e).number ≤ 13
-  pub not_10 : (telling e).number ≡ 10 → ⊥
-  pub place : (telling e).place ≤ most
 
 -- the S line at a place: its share and the place behind it, or there is no such line
 abbrev pub ReadsShare : List ℕ → ℕ → Result (ℕ × ℕ) LineFault → Type 0
@@ -53,12 +38,7 @@ ReadsDue body place (Err (Shares p)) = (p ≡ length body) × TrailerOrContract 
 ReadsDue body place (Err (Count p)) = ⊥
 ReadsDue body place (Err (Book f)) = ⊥
 
--- the C line at a place of the contract part, which begins at the byte base of the file
-abbrev pub ReadsContract : List ℕ → ℕ → ℕ → List ℕ → Result ℕ LineFault → Type 0
-ReadsContract part base place ns (Ok next) = ReadsLine part place 67 ns (Ok next)
-ReadsContract part base place ns (Err e) = ((w : Malformed) × (e ≡ Contract (base + place) w)) × ((ms : List ℕ) → length ms ≡ length ns → LineAt part place 67 ms → ⊥)
-
--- the same, and what is wrong with a line that is none
+-- the C line at a place of the contract part, which begins at the byte base of the file, or what is wrong with a line that is none
 abbrev pub ReadsContractLine : List ℕ → ℕ → ℕ → List ℕ → Result ℕ LineFault → Type 0
 ReadsContractLine part base place ns (Ok next) = ReadsLine part place 67 ns (Ok next)
 ReadsContractLine part base place ns (Err (Share p w)) = ⊥
@@ -100,11 +80,6 @@ pub record DeclinedOne {V : Type 0} (h : Handed) (e : Entry) (place : ℕ) (x y 
   pub declined : declines_entry h (listed x.book) e ≡ Some (number_of fault.refusal)
   pub told : fault.place ≡ place
   pub unchanged : y ≡ x
-
--- what the entering of a contract answers and leaves
-abbrev pub EntersOne : {V : Type 0} → Operations V → Handed → Entry → ℕ → State V → State V → Result Entered BookFault → Type 0
-EntersOne ops h e place x y (Ok _) = EnteredOne ops h e x y
-EntersOne ops h e place x y (Err fault) = DeclinedOne h e place x y fault
 
 -- the C line of a contract stands at a place, and C lines follow it from the next place on
 pub record LineOf (part : List ℕ) (n place next : ℕ) (e : Entry) : Type 0 where
@@ -163,26 +138,9 @@ pub record NotOpened {V : Type 0} (h : Handed) (ceiling : ℕ) (shares : List �
   pub told : fault.place ≡ place
   pub unchanged : y ≡ x
 
--- what the opening answers and leaves
-abbrev pub OpensFor : {V : Type 0} → Operations V → Handed → ℕ → List ℕ → ℕ → State V → State V → Result Opened BookFault → Type 0
-OpensFor ops h ceiling shares place x y (Ok _) = OpenedFor ops h ceiling shares x y
-OpensFor ops h ceiling shares place x y (Err fault) = NotOpened h ceiling shares place x y fault
-
 -- the refusals that a read can get
 pub record MayCome (most : ℕ) (e : FileFault) : Type 0 where
   pub from_1 : 1 ≤ (telling e).number
   pub to_13 : (telling e).number ≤ 13
   pub not_10 : (telling e).number ≡ 10 → ⊥
   pub place : (telling e).place ≤ most
-
--- those of a file whose form is wrong
-pub record ToldOfForm (most : ℕ) (e : FileFault) : Type 0 where
-  pub from_1 : 1 ≤ (telling e).number
-  pub to_4 : (telling e).number ≤ 4
-  pub place : (telling e).place ≤ most
-
--- the opening was declined, which is told at the trailer
-pub record ToldOfOpening (at : ℕ) (e : BookFault) : Type 0 where
-  pub from_5 : 5 ≤ number_of e.refusal
-  pub to_7 : number_of e.refusal ≤ 7
-  pub place : e.place ≡ at

@@ -1,5 +1,5 @@
 -- A file's refusal by its number, its byte place, and what the book declined inside it.
-use Rattle.std.specs.Prelude.{ℕ, Some, None, Option}
+use Rattle.std.specs.Prelude.{ℕ, List, ◌++◌, Some, None, Option, codes, decimal}
 use Rattle.book.specs.declared.refusal.Refusal.{Refusal}
 use Rattle.book.specs.Refusals.{number_of}
 use Rattle.tariff.specs.declared.refusal.LineFault.TheVariants.{Share, Contract}
@@ -22,3 +22,7 @@ telling (Shares p) = at 2 p
 telling (Line (Contract p w)) = at 3 p
 telling (Count p) = at 4 p
 telling (Book f) = record { number = number_of f.refusal; place = f.place; inner = Some f.refusal }
+
+-- a file's refusal in words: its number and its byte place
+abbrev pub refused_text : FileFault → List ℕ
+refused_text e = codes "refused " ++ (decimal (telling e).number ++ (codes " at " ++ decimal (telling e).place))

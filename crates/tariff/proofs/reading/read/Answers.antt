@@ -1,11 +1,16 @@
-use Rattle.std.proofs.Common.{◌≡◌, ℕ, ◌+◌, ◌-◌, length, take, subst, arith}
+use Rattle.std.proofs.Common.{◌+◌, length, take, sym, refl, ap, ◌∙◌, rules}
 use Rattle.std.proofs.lemmas.Result.{err_from_is_err_and}
+use Rattle.book.specs.declared.refusal.Refusal.{Refusal}
 use Rattle.book.specs.Declines.{handed}
 use Rattle.book.specs.Laid.{state}
-use Rattle.tariff.specs.Forms.{part, Form}
+use Rattle.tariff.specs.declared.refusal.BookFault.{BookFault}
+use Rattle.tariff.specs.declared.refusal.FileFault.TheVariants.{Book}
+use Rattle.tariff.specs.Forms.{trailer_at, part}
+use Rattle.tariff.specs.Reading.{OpenedFor, NotOpened}
 use Rattle.book.proofs.Handing.{handed_same}
 use Rattle.tariff.proofs.Declined.{read_comes, read_unchanged}
-use Rattle.tariff.proofs.Filing.{form_declined, opening_declined, lines_from_contracts, read_entered, part_length}
+use Rattle.tariff.proofs.Faults.{mapped_ok, mapped_err}
+use Rattle.tariff.proofs.Filing.{form_declined, opening_declined, lines_from_contracts, read_entered}
 use Rattle.tariff.proofs.reading.read.Goals as goal
 
 pub returns-in_err-trailer : goal.returns-in_err-trailer
@@ -19,37 +24,29 @@ returns-in_err-trailer g c =
     let reads = form_declined ops h file x r p.0 c.in_err-trailer.field-0.0 p.1 p.2 c.in_err-trailer.ensures.reads in
     record { reads = reads; comes = read_comes ops h file x x r reads; unchanged = read_unchanged ops h file x x r reads }
 
-pub returns-in_err-open_for : goal.returns-in_err-open_for
-returns-in_err-open_for g c =
+pub returns-in_err-map_err : goal.returns-in_err-map_err
+returns-in_err-map_err g c =
     let ops = g.R.Reckoning.operations in
     let h = handed (length c.args.levels.now) (length c.args.bounds.now) (length c.args.values.now) in
     let x = state c.args.book.now c.args.levels.now c.args.bounds.now c.args.values.now in
-    let y = state c.open_for.new.book c.open_for.new.levels c.open_for.new.bounds c.open_for.new.values in
+    let y = state c.open.new.self c.open.new.levels c.open.new.bounds c.open.new.values in
     let file = c.args.file.now in
     let t = c.in_ok-trailer.trailer in
     let formed = c.in_ok-trailer.ensures.reads in
-    let whole : t.scenarios ≡ t.scenarios - 0 = omega arith in
-    let form = subst (λ (k : ℕ). Form file t (take k c.check_form.new.shares) formed.0) whole formed.1 in
-    let r = c.from_residual-in_err-open_for.result in
-    let p = err_from_is_err_and r c.from_residual-in_err-open_for.ensures.1 in
-    let shares = take (t.scenarios - 0) c.check_form.new.shares in
-    let reads = opening_declined ops h file t shares formed.0 form x y r p.0 c.in_err-open_for.field-0.0 p.1 p.2 c.in_err-open_for.ensures.opens in
+    let r = c.from_residual-in_err-map_err.result in
+    let p = err_from_is_err_and r c.from_residual-in_err-map_err.ensures.1 in
+    let told : Refusal → BookFault = λ refusal. record { place = trailer_at file; refusal = refusal } in
+    let m = mapped_err _ told (λ e f is. search rules) c.open.result c.map_err.result _ c.map_err.ensures.cases c.in_err-map_err.was in
+    let made = rw m.1 at c.open.ensures in
+    let declined : NotOpened h t.ceiling (take t.scenarios c.check_form.new.shares) (trailer_at file) x y (told m.0) = record { declined = sym made.declines; told = refl; unchanged = made.unchanged } in
+    let reads = opening_declined ops h file t (take t.scenarios c.check_form.new.shares) formed.0 formed.1 x y r p.0 (told m.0) p.1 (p.2 ∙ ap (λ (f : BookFault). Book f) m.2) declined in
     record { reads = reads; comes = read_comes ops h file x y r reads; unchanged = read_unchanged ops h file x y r reads }
 
-pub enter_contracts-requires : goal.enter_contracts-requires
-enter_contracts-requires g c =
-    let file = c.args.file.now in
+pub enter-requires-clause-lines : goal.enter-requires-clause-lines
+enter-requires-clause-lines g c =
     let t = c.in_ok-trailer.trailer in
-    let shares = take t.scenarios c.check_form.new.shares in
     let formed = c.in_ok-trailer.ensures.reads in
-    let form = formed.1 in
-    let ends = form.whole.before.ends in
-    let few = ends.trailer.scenarios_fit in
-    let most = ends.long.most in
-    record {
-      part = (omega (arith, part_length file t shares formed.0 form), (omega arith, (omega arith, lines_from_contracts (part file t) (2 + t.scenarios) formed.0 form.whole.contracts)));
-      places = c.in_ok-open_for.ensures.fault;
-    }
+    lines_from_contracts (part c.args.file.now t) (2 + t.scenarios) formed.0 formed.1.whole.contracts
 
 pub returns : goal.returns
 returns g c =
@@ -59,14 +56,15 @@ returns g c =
     let v = length c.args.values.now in
     let h = handed l b v in
     let x = state c.args.book.now c.args.levels.now c.args.bounds.now c.args.values.now in
-    let y = state c.open_for.new.book c.open_for.new.levels c.open_for.new.bounds c.open_for.new.values in
-    let z = state c.enter_contracts.new.book c.enter_contracts.new.levels c.enter_contracts.new.bounds c.enter_contracts.new.values in
-    let same = handed_same c.open_for.auto.levels c.open_for.auto.bounds c.open_for.auto.values in
+    let y = state c.open.new.self c.open.new.levels c.open.new.bounds c.open.new.values in
+    let z = state c.enter.new.book c.enter.new.levels c.enter.new.bounds c.enter.new.values in
+    let same = handed_same c.open.auto.levels c.open.auto.bounds c.open.auto.values in
     let file = c.args.file.now in
     let t = c.in_ok-trailer.trailer in
     let formed = c.in_ok-trailer.ensures.reads in
-    let whole : t.scenarios ≡ t.scenarios - 0 = omega arith in
-    let form = subst (λ (k : ℕ). Form file t (take k c.check_form.new.shares) formed.0) whole formed.1 in
-    let r = c.enter_contracts.result in
-    let reads = read_entered ops h file t (take (t.scenarios - 0) c.check_form.new.shares) formed.0 form x y c.in_ok-open_for.ensures.opens _ z r same c.enter_contracts.ensures.enters in
+    let m = mapped_ok _ c.open.result c.map_err.result _ c.map_err.ensures.cases c.in_ok-map_err.was in
+    let made = rw m at c.open.ensures in
+    let opened : OpenedFor ops h t.ceiling (take t.scenarios c.check_form.new.shares) x y = record { accepted = sym made.declines; list = made.list refl; holds = made.holds refl; outside = made.keeps refl } in
+    let r = c.enter.result in
+    let reads = read_entered ops h file t (take t.scenarios c.check_form.new.shares) formed.0 formed.1 x y opened _ z r same c.enter.ensures in
     record { reads = reads; comes = read_comes ops h file x z r reads; unchanged = read_unchanged ops h file x z r reads }

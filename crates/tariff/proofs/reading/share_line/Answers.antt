@@ -1,23 +1,21 @@
-use Rattle.std.proofs.Common.{◌≡◌, ℕ, List, [], ◌∷◌, length, Ok, Err, refl, subst, arith}
-use Rattle.tariff.specs.declared.refusal.LineFault.TheVariants.{Share}
-use Rattle.tariff.specs.Reading.{ReadsShare}
+use Rattle.std.proofs.Common.{◌≡◌, ℕ, List, [], ◌∷◌, length, Ok, refl, subst, arith, rules}
+use Rattle.std.proofs.lemmas.Result.{err_from_is_err_and}
 use Rattle.lines.specs.Reads.{ReadsLine}
+use Rattle.tariff.specs.declared.refusal.LineFault.TheVariants.{Share}
+use Rattle.tariff.proofs.Faults.{mapped_ok, mapped_err}
 use Rattle.tariff.proofs.Shares.{one_number}
-use Rattle.tariff.proofs.Told.{share_told}
 use Rattle.tariff.proofs.reading.share_line.Goals as goal
 
-pub returns-in-Ok : goal.returns-in-Ok
-returns-in-Ok c =
-    let ns = c.read_line.new.numbers in
-    let one = one_number ns c.read_line.auto.numbers in
-    let reads = subst (λ (xs : List ℕ). ReadsLine c.args.body.now c.args.place 83 xs (Ok c.in-Ok.next)) one c.in-Ok.ensures.reads in
-    record { told = reads.2; reads = reads }
+pub returns-in_err-next : goal.returns-in_err-next
+returns-in_err-next c =
+    let kept : length c.read_line-read.new.numbers ≡ 1 = c.read_line-read.auto.numbers in
+    let m = mapped_err _ (Share c.args.place) (λ e f is. search rules) c.read_line-read.result c.map_err.result _ c.map_err.ensures.cases c.in_err-next.was in
+    let read = rw m.1 at c.read_line-read.ensures in
+    let p = err_from_is_err_and c.from_residual.result c.from_residual.ensures.1 in
+    rw (p.1, p.2, m.2) (refl, λ n line. read.reads (n ∷ []) (omega arith) line, read.fault)
 
-pub returns-in-Err : goal.returns-in-Err
-returns-in-Err c =
-    let body = c.args.body.now in
-    let place = c.args.place in
-    let kept : length c.read_line.new.numbers ≡ 1 = c.read_line.auto.numbers in
-    let r = Err (Share place c.in-Err.wrong) in
-    let reads : ReadsShare body place r = (refl, λ n line. c.in-Err.ensures.reads (n ∷ []) (omega arith) line, c.in-Err.ensures.fault) in
-    record { told = share_told body place r reads; reads = reads }
+pub returns : goal.returns
+returns c =
+    let m = mapped_ok _ c.read_line-read.result c.map_err.result _ c.map_err.ensures.cases c.in_ok-next.was in
+    let read = rw m at c.read_line-read.ensures.reads in
+    subst (λ (xs : List ℕ). ReadsLine c.args.body.now c.args.place 83 xs (Ok c.in_ok-next.next)) (one_number c.read_line-read.new.numbers c.read_line-read.auto.numbers) read

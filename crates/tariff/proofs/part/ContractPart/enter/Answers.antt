@@ -4,14 +4,14 @@ use Rattle.book.specs.Declines.{handed}
 use Rattle.book.specs.Laid.{state}
 use Rattle.book.proofs.Handing.{handed_same}
 use Rattle.tariff.proofs.Enterings.{so_far_none, so_far_more, part_entered, part_declined}
-use Rattle.tariff.proofs.reading.enter_contracts.Goals as goal
+use Rattle.tariff.proofs.part.ContractPart.enter.Goals as goal
 
 pub loop-place-init : goal.loop-place-init
 loop-place-init g c =
     let h = handed (length c.args.levels.now) (length c.args.bounds.now) (length c.args.values.now) in
     let x = state c.args.book.now c.args.levels.now c.args.bounds.now c.args.values.now in
-    let lines = c.requires.part.1.1.1 in
-    (omega arith, lines, c.requires.places, λ empty holds. so_far_none g.R.Reckoning.operations h c.args.part.now c.args.count (omega arith) x lines empty holds)
+    let lines = c.requires.lines in
+    (omega arith, lines, c.requires.places, λ empty holds. so_far_none g.R.Reckoning.operations h c.args.self.now.bytes.now c.args.self.now.count (omega arith) x lines empty holds)
 
 pub returns-in_err-place : goal.returns-in_err-place
 returns-in_err-place g c =
@@ -24,12 +24,9 @@ returns-in_err-place g c =
     let same = handed_same c.loop-place.auto.levels c.loop-place.auto.bounds c.loop-place.auto.values in
     let p = err_from_is_err_and c.from_residual.result c.from_residual.ensures.1 in
     let declined = c.in_err-place.ensures in
-    record {
-      told = rw (p.1, p.2) declined.walks;
-      enters = λ empty holds.
-          let so = c.loop-place.invariant.3 empty holds in
-          rw (p.1, p.2) (part_declined g.R.Reckoning.operations (handed l b v) c.args.part.now c.args.count (omega arith) x c.args.base c.loop-place.place y z _ c.in_err-place.field-0.0 same so (declined.enters so.entered.holds));
-    }
+    λ empty holds.
+    let so = c.loop-place.invariant.3 empty holds in
+    rw (p.1, p.2) (part_declined g.R.Reckoning.operations (handed l b v) c.args.self.now.bytes.now c.args.self.now.count (omega arith) x c.args.self.now.base c.loop-place.place y z _ c.in_err-place.field-0.0 same so (declined.enters so.entered.holds))
 
 pub loop-place-preserved : goal.loop-place-preserved
 loop-place-preserved g c =
@@ -46,7 +43,7 @@ loop-place-preserved g c =
       entered.places,
       λ empty holds.
           let so = c.loop-place.invariant.3 empty holds in
-          so_far_more g.R.Reckoning.operations (handed l b v) c.args.part.now c.args.count (omega arith) x c.args.base c.loop-place.place c.in_ok-place.place y z _ same so (entered.enters so.entered.holds),
+          so_far_more g.R.Reckoning.operations (handed l b v) c.args.self.now.bytes.now c.args.self.now.count (omega arith) x c.args.self.now.base c.loop-place.place c.in_ok-place.place y z _ same so (entered.enters so.entered.holds),
     )
 
 pub loop-place-smaller : goal.loop-place-smaller
@@ -57,7 +54,4 @@ returns g c =
     let h = handed (length c.args.levels.now) (length c.args.bounds.now) (length c.args.values.now) in
     let x = state c.args.book.now c.args.levels.now c.args.bounds.now c.args.values.now in
     let y = state c.loop-place.book c.loop-place.levels c.loop-place.bounds c.loop-place.values in
-    record {
-      told = tt;
-      enters = λ empty holds. part_entered g.R.Reckoning.operations h c.args.part.now c.args.count (omega arith) x c.loop-place.place y (omega arith) (c.loop-place.invariant.3 empty holds);
-    }
+    λ empty holds. part_entered g.R.Reckoning.operations h c.args.self.now.bytes.now c.args.self.now.count (omega arith) x c.loop-place.place y (omega arith) (c.loop-place.invariant.3 empty holds)
