@@ -33,6 +33,6 @@ fn agrees(rt: &HostRuntime, name: &str) -> anyhow::Result<bool> {
     let output = format!(in heap; "{name}.out")?;
     let file = fs::read(rt, input.as_str())?;
     let expected = fs::read(rt, output.as_str())?;
-    let statement = statement_of(heap, &file[..])?;
-    Ok(&statement.text[..] == &expected[..])
+    let text = statement_of(heap, &file[..])?.into_text();
+    Ok(&text[..] == &expected[..])
 }

@@ -51,7 +51,7 @@ fn agrees(rt: &HostRuntime, kind: Kind, folder: &str, name: &str) -> anyhow::Res
     let answer = match kind {
         Kind::File => {
             let file = fs::read(rt, input.as_str())?;
-            statement_of(heap, &file[..])?.text
+            statement_of(heap, &file[..])?.into_text()
         }
         Kind::Script => {
             let script = fs::read_to_string(rt, input.as_str())?;
