@@ -1,5 +1,5 @@
 -- The lines of a statement, one after the other, and that each fits its buffer.
-use Rattle.std.proofs.Common.{◌≡◌, ℕ, ◌+◌, ◌<◌, ◌≤◌, false, ltb, leb, List, [], ◌∷◌, ◌++◌, map, length, get_or, take, drop, Some, None, Ok, Err, Option, Result, IsOk, IfOk, sym, ap, ◌∙◌, subst, append_assoc, arith}
+use Rattle.std.proofs.Common.{◌≡◌, ℕ, ◌+◌, ◌<◌, ◌≤◌, false, Bool, ltb, leb, List, [], ◌∷◌, ◌++◌, map, length, get_or, take, drop, Some, None, Ok, Err, Option, Result, IsOk, IfOk, sym, ap, ◌∙◌, subst, append_assoc, arith}
 use Rattle.std.proofs.lemmas.List.{map_push, append-nil, take_at, take_more, get_or-take}
 use Rattle.std.proofs.lemmas.Bool.{false≢true, cond-false, le-leb, le-ltb, not_from_true}
 use Rattle.reckoning.specs.declared.grains.Grains.{Grains}
@@ -10,14 +10,15 @@ use Rattle.book.specs.Declines.{Handed, handed, places_wrong, chance_sentences}
 use Rattle.book.specs.Figures.{chance}
 use Rattle.book.specs.Laid.{State, LevelsHold}
 use Rattle.book.specs.Levels.{kept}
-use Rattle.book.specs.Plain.{Plain, scenarios, losses}
+use Rattle.book.specs.Listed.{listed}
+use Rattle.book.specs.Plain.{Plain, scenarios, losses, unopened}
 use Rattle.book.specs.Refusals.{Sentences, first}
 use Rattle.book.proofs.Reaches.{kept_under_ceiling}
 use Rattle.book.proofs.Handing.{handed_same}
 use Rattle.tariff.specs.declared.reading.FileRead.{FileRead}
 use Rattle.tariff.specs.declared.refusal.FileFault.{FileFault}
 use Rattle.tariff.specs.Filed.{ReadsFile}
-use Rattle.rendering.specs.Tables.{Row, table_text, Table, row_at, levels_text}
+use Rattle.rendering.specs.Tables.{Row, table_text, Table, row_at, levels_text, Says, Stated}
 use Rattle.rendering.specs.Printed.{level_text}
 use Rattle.rendering.specs.Told.{Tells}
 use Rattle.rendering.specs.declared.text.TooFew.{TooFew}
@@ -77,8 +78,16 @@ chance_told h p level fit low =
     late : Sentences
     late = (14, outside 0 (scenarios p) 0) ∷ last
 
--- a read over as many places as a statement brings
-pub read_over : (file : List ℕ) (x y : State (Option ℕ)) (l b v : ℕ) (r : Result FileRead FileFault) → l ≡ 256 → b ≡ 2048 → v ≡ 2048 →
-    ReadsFile counts (handed l b v) file x y r → ReadsFile counts (handed 256 2048 2048) file x y r
-read_over file x y l b v r is-l is_b is-v reads =
-    subst (λ (h : Handed). ReadsFile counts h file x y r) (handed_same is-l is_b is-v) reads
+-- what is stated of a read over as many places as a statement brings
+pub stated : (file : List ℕ) (x y : State (Option ℕ)) (l b v : ℕ) (r : Result FileRead FileFault) (accepted : Bool) (text : List ℕ) →
+    (l ≡ 256) × ((b ≡ 2048) × (v ≡ 2048)) → listed x.book ≡ unopened → ReadsFile counts (handed l b v) file x y r → Says (listed y.book) r accepted text →
+    Stated file accepted text
+stated file x y l b v r accepted text (is-l, (is_b, is-v)) empty reads says =
+    record {
+      before = x;
+      after = y;
+      answer = r;
+      empty = empty;
+      reads = subst (λ (h : Handed). ReadsFile counts h file x y r) (handed_same is-l is_b is-v) reads;
+      says = says;
+    }

@@ -1,15 +1,11 @@
 -- Texts put into bytes one after another.
-use Rattle.std.proofs.Common.{◌≡◌, ℕ, ◌+◌, ◌≤◌, List, [], ◌++◌, length, take, drop, sym, refl, ap, ◌∙◌, arith, length-append}
+use Rattle.std.proofs.Common.{◌≡◌, ℕ, ◌+◌, ◌≤◌, List, ◌++◌, length, sym, refl, ap, ◌∙◌, length-append}
 use lib.Seq.{paste}
-use Rattle.std.proofs.lemmas.List.{take-append-drop}
 use Rattle.std.proofs.lemmas.List.Edits.{paste_all, paste-paste}
 use Rattle.lines.specs.Places.{written}
 
 written_pasted : (bs : List ℕ) (from : ℕ) (a : List ℕ) → written bs from a ≡ paste bs from a (length a)
 written_pasted bs from a = sym (paste_all bs from a (length a) refl)
-
-pub written_nothing : (bs : List ℕ) (from : ℕ) → written bs from [] ≡ bs
-written_nothing bs from = let z : from + 0 ≡ from = omega arith in ap (λ (i : ℕ). take from bs ++ drop i bs) z ∙ take-append-drop from bs
 
 -- two texts put one after the other are one text
 written_written : (bs : List ℕ) (from : ℕ) (a b : List ℕ) → from ≤ length bs →

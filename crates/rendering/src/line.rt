@@ -40,7 +40,7 @@ pub(crate) fn put_spaced(line: &mut Line, n: u64)
 }
 
 // Appends the last `count` digits of a number, with leading zeros.
-pub(crate) fn put_padded(line: &mut Line, count: usize, n: u64)
+fn put_padded(line: &mut Line, count: usize, n: u64)
     requires room { array_vec_len line.old + count ≤ 256 }
     ensures after { line.new.items ≡ line.old.items ++ padded count n }
     ensures longer { array_vec_len line.new ≡ array_vec_len line.old + count }
@@ -49,4 +49,14 @@ pub(crate) fn put_padded(line: &mut Line, count: usize, n: u64)
         put_padded(line, count - 1, n / 10);
         line.push(b'0' + (n % 10) as u8);
     }
+}
+
+// Appends a space and the last `count` digits of a number.
+pub(crate) fn put_spaced_digits(line: &mut Line, count: usize, n: u64)
+    requires room { array_vec_len line.old + (count + 1) ≤ 256 }
+    ensures after { line.new.items ≡ line.old.items ++ 32 ∷ padded count n }
+    ensures longer { array_vec_len line.new ≡ array_vec_len line.old + (count + 1) }
+{
+    line.push(b' ');
+    put_padded(line, count, n);
 }

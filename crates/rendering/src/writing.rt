@@ -6,10 +6,10 @@ ghost use Rattle.book.specs.Entries.{entry_of};
 ghost use Rattle.book.specs.Listed.{listed};
 ghost use Rattle.tariff.specs.Files.{numbers_of, file_text};
 ghost use Rattle.lines.specs.Places.{written};
-ghost use Rattle.lines.specs.Texts.{line_text, padded, trailer_text};
+ghost use Rattle.lines.specs.Texts.{line_text, trailer_text};
 ghost use Rattle.rendering.specs.Told.{Tells};
 
-use crate::line::{Line, put_padded, put_spaced};
+use crate::line::{Line, put_spaced, put_spaced_digits};
 use crate::text::TooFew;
 use arrayvec::ArrayVec;
 use book::book::Book;
@@ -71,8 +71,7 @@ trait Lined {
 impl Lined for u32 {
     ghost text = { λ scenarios share. line_text 83 (share ∷ []) };
 
-    fn line(&self, scenarios: usize) -> Line {
-        let _ = scenarios;
+    fn line(&self, _scenarios: usize) -> Line {
         line_of(b'S', &[*self])
     }
 }
@@ -109,7 +108,7 @@ fn put_lines<T: Lined>(out: &mut [u8], from: usize, items: &[T], scenarios: usiz
     at
 }
 
-// Puts a line, and answers the place behind it.
+// Puts a line, and answers the place behind it. The place goes along: a struct of both would have to say in each clause whose bytes it holds.
 fn put_line(out: &mut [u8], from: usize, line: &Line) -> usize
     requires fits { from + array_vec_len line.now ≤ length out.old }
     ensures value { result ≡ from + array_vec_len line.now }
@@ -161,14 +160,4 @@ fn trailer_line(trailer: Trailer) -> Line
     put_spaced_digits(&mut line, 3, trailer.place as u64);
     line.push(b'\n');
     line
-}
-
-// Appends a space and the last `count` digits of a number.
-fn put_spaced_digits(line: &mut Line, count: usize, n: u64)
-    requires room { array_vec_len line.old + (count + 1) ≤ 256 }
-    ensures after { line.new.items ≡ line.old.items ++ 32 ∷ padded count n }
-    ensures longer { array_vec_len line.new ≡ array_vec_len line.old + (count + 1) }
-{
-    line.push(b' ');
-    put_padded(line, count, n);
 }
