@@ -1,6 +1,4 @@
 pub mod Writings
-pub mod Tellings
-pub mod LinesPut
 pub mod Tables
 pub mod FilesPut
 pub mod WrittenBack

@@ -1,5 +1,5 @@
 -- A book written is read back: the file of a lawful list is accepted, over any places that are enough, and the book is that list.
-use Rattle.std.proofs.Common.{◌≡◌, ℕ, ◌<◌, List, ◌∷◌, ◌++◌, length, take, Some, None, Ok, Err, Option, Result, sym, refl, ap, ◌∙◌, subst, inl, inr, arith, length-append}
+use Rattle.std.proofs.Common.{◌≡◌, ℕ, ◌<◌, List, ◌∷◌, ◌++◌, length, take, None, Ok, Err, Result, sym, refl, ap, ◌∙◌, subst, inl, inr, arith, length-append}
 use Rattle.std.proofs.lemmas.List.{take_at, get_or_at}
 use Rattle.reckoning.specs.Operations.{Operations}
 use Rattle.book.specs.Declines.{Handed, open_sentences}
@@ -23,9 +23,6 @@ use Rattle.tariff.proofs.FormsApart.{right_or_wrong}
 use Rattle.rendering.proofs.FormWritten.{form_of_written}
 use Rattle.tariff.proofs.OneAnswer.{form_trailer, form_shares, form_entries}
 use Rattle.rendering.proofs.WrittenBack.{told_in_front}
-
-none_is_some_not : (o : Option ℕ) (n : ℕ) → o ≡ None → o ≡ Some n → ⊥
-none_is_some_not o n e f = let z : ◌≡◌ {A = ℕ} 0 1 = cc in omega arith
 
 module _ {V : Type 0} (ops : Operations V) (h : Handed) (p : Plain) (lawful : Lawful p) (enough : Enough h p) (x y : State V) where
   -- whatever the file is read as is the list
@@ -56,7 +53,7 @@ module _ {V : Type 0} (ops : Operations V) (h : Handed) (p : Plain) (lawful : La
       let answer =
       ap (λ (c : ℕ). first (open_sentences h c d.shares)) (read_ceiling d.trailer d.shares d.entries d.form)
       ∙ ap (λ (ws : List ℕ). first (open_sentences h p.ceiling ws)) (read_shares d.trailer d.shares d.entries d.form) in
-      none_is_some_not (first (open_sentences h d.trailer.ceiling d.shares)) _ (answer ∙ opens_again h p lawful enough) d.declined
+      cc (answer ∙ opens_again h p lawful enough, d.declined)
 
   -- the opened list that the file was entered into
   opened_is : (t : trailers.Trailer) (shares : List ℕ) (entries : List Entry) (q : Plain) → Opens h (file_text p) t shares entries q → q ≡ opened h.levels p.ceiling p.shares
@@ -75,7 +72,7 @@ module _ {V : Type 0} (ops : Operations V) (h : Handed) (p : Plain) (lawful : La
       let answer : declines_entry h (with_entries d.list d.front) d.next ≡ None =
       subst (λ (es : List Entry). declines_entry h (with_entries d.list es) d.next ≡ None) (take_at d.front (d.next ∷ d.rest) i refl)
       (subst (λ (e : Entry). declines_entry h (with_entries d.list (take i entries)) e ≡ None) (get_or_at d.front d.next d.rest d.next i refl) accepted) in
-      none_is_some_not (declines_entry h (with_entries d.list d.front) d.next) _ answer d.declined
+      cc (answer, d.declined)
 
   pub read_back : (r : Result FileRead FileFault) → ReadsFile ops h (file_text p) x y r → ReadBack h p y r
   read_back (Ok w) d = record { accepted = refl; same = whole_is_the_list d }

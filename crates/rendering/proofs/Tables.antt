@@ -1,7 +1,7 @@
 -- The lines of a statement, one after the other, and that each fits its buffer.
-use Rattle.std.proofs.Common.{◌≡◌, ℕ, ◌+◌, ◌-◌, ◌^◌, ◌<◌, ◌≤◌, false, ltb, leb, List, [], ◌∷◌, ◌++◌, map, length, get_or, take, Some, None, Option, Result, sym, ap, ◌∙◌, subst, append_assoc, arith, length-take}
-use Rattle.std.proofs.lemmas.List.{map_push, append-nil, take_at, take_all, take_more, get_or-take}
-use Rattle.std.proofs.lemmas.Bool.{cond-false, le-leb, le-ltb, not_from_true}
+use Rattle.std.proofs.Common.{◌≡◌, ℕ, ◌+◌, ◌<◌, ◌≤◌, false, Bool, ltb, leb, List, [], ◌∷◌, ◌++◌, map, length, get_or, take, drop, Some, None, Ok, Err, Option, Result, IsOk, IfOk, sym, ap, ◌∙◌, subst, append_assoc, arith}
+use Rattle.std.proofs.lemmas.List.{map_push, append-nil, take_at, take_more, get_or-take}
+use Rattle.std.proofs.lemmas.Bool.{false≢true, cond-false, le-leb, le-ltb, not_from_true}
 use Rattle.reckoning.specs.declared.grains.Grains.{Grains}
 use Rattle.reckoning.specs.Counting.{counts}
 use Rattle.reckoning.specs.Outcomes.{outside}
@@ -10,29 +10,24 @@ use Rattle.book.specs.Declines.{Handed, handed, places_wrong, chance_sentences}
 use Rattle.book.specs.Figures.{chance}
 use Rattle.book.specs.Laid.{State, LevelsHold}
 use Rattle.book.specs.Levels.{kept}
-use Rattle.book.specs.Plain.{Plain, scenarios, losses}
+use Rattle.book.specs.Listed.{listed}
+use Rattle.book.specs.Plain.{Plain, scenarios, losses, unopened}
 use Rattle.book.specs.Refusals.{Sentences, first}
 use Rattle.book.proofs.Reaches.{kept_under_ceiling}
 use Rattle.book.proofs.Handing.{handed_same}
 use Rattle.tariff.specs.declared.reading.FileRead.{FileRead}
 use Rattle.tariff.specs.declared.refusal.FileFault.{FileFault}
 use Rattle.tariff.specs.Filed.{ReadsFile}
-use Rattle.rendering.specs.Tables.{Row, table_text, Table, row_at, levels_text}
-use Rattle.rendering.specs.Printed.{level_text, refusal_text}
-use Rattle.lines.proofs.Padded.{at_most_twenty}
-use Rattle.rendering.proofs.Tellings.{length_level_text, length_refusal_text}
+use Rattle.rendering.specs.Tables.{Row, table_text, Table, row_at, levels_text, Says, Stated}
+use Rattle.rendering.specs.Printed.{level_text}
+use Rattle.rendering.specs.Told.{Tells}
+use Rattle.rendering.specs.declared.text.TooFew.{TooFew}
 
-pub level_fits : (level lower upper : ℕ) → level < 2 ^ 64 → lower < 2 ^ 64 → upper < 2 ^ 64 → length (level_text level lower upper) ≤ 64
-level_fits level lower upper a b c = omega (arith, length_level_text level lower upper, at_most_twenty level a, at_most_twenty lower b, at_most_twenty upper c)
-
-pub refusal_fits : (number place : ℕ) → number < 2 ^ 64 → place < 2 ^ 64 → length (refusal_text number place) ≤ 64
-refusal_fits number place a b = omega (arith, length_refusal_text number place, at_most_twenty number a, at_most_twenty place b)
-
--- what was told into a buffer, taken out and appended
-pub told_appended : (before buffer after text : List ℕ) (k : ℕ) → k ≡ length text → buffer ≡ text ++ after → (new : List ℕ) → new ≡ before ++ take (k - 0) buffer → new ≡ before ++ text
-told_appended before buffer after text k size told new is =
-    let z : k - 0 ≡ k = omega arith in
-    is ∙ ap (λ (n : ℕ). before ++ take n buffer) z ∙ ap (λ (b : List ℕ). before ++ take k b) told ∙ ap (λ (t : List ℕ). before ++ t) (take_at text after k (sym size))
+-- a line that is told, and taken from where it stands
+pub told_taken : (line before after : List ℕ) (r : Result ℕ TooFew) → Tells line before after r → IsOk r →
+    (old new : List ℕ) → IfOk r (λ k. new ≡ old ++ take k after) → new ≡ old ++ line
+told_taken line before after (Ok k) (l, m, e) ok old new is = is ∙ ap (λ (t : List ℕ). old ++ t) (ap (take k) e ∙ take_at line (drop k before) k (sym l))
+told_taken line before after (Err x) told ok old new is = absurd (false≢true ok)
 
 table_push : (rows : List Row) (r : Row) → table_text (rows ++ (r ∷ [])) ≡ table_text rows ++ level_text r.level r.lower r.upper
 table_push [] r = append-nil (level_text r.level r.lower r.upper)
@@ -62,14 +57,8 @@ levels_more p ks i level lower upper before after l at told is more =
     ∙ ap (λ (k : ℕ). levels_text p (take i ks ++ (k ∷ []))) (sym at)
     ∙ ap (levels_text p) (sym (take_more ks i 0 l))
 
-pub levels_all : (p : Plain) (ks : List ℕ) (i : ℕ) (text : List ℕ) → length ks ≤ i → text ≡ levels_text p (take i ks) → text ≡ levels_text p ks
-levels_all p ks i text past is = is ∙ ap (levels_text p) (take_all i ks past)
-
 -- the kept levels stand in the first places
 module _ (p : Plain) (n : ℕ) (levels : List ℕ) (hold : LevelsHold p n levels) where
-  pub kept_within : n ≤ length levels
-  kept_within = omega (arith, hold.count, ap length hold.each, length-take n levels)
-
   pub kept_at : (i : ℕ) → i < n → get_or (kept p.ceiling (losses p)) i 0 ≡ get_or levels i 0
   kept_at i l = ap (λ (ks : List ℕ). get_or ks i 0) (sym hold.each) ∙ get_or-take n levels i 0 l
 
@@ -89,8 +78,16 @@ chance_told h p level fit low =
     late : Sentences
     late = (14, outside 0 (scenarios p) 0) ∷ last
 
--- a read over as many places as a statement brings
-pub read_over : (file : List ℕ) (x y : State (Option ℕ)) (l b v : ℕ) (r : Result FileRead FileFault) → l ≡ 256 → b ≡ 2048 → v ≡ 2048 →
-    ReadsFile counts (handed l b v) file x y r → ReadsFile counts (handed 256 2048 2048) file x y r
-read_over file x y l b v r is-l is_b is-v reads =
-    subst (λ (h : Handed). ReadsFile counts h file x y r) (handed_same is-l is_b is-v) reads
+-- what is stated of a read over as many places as a statement brings
+pub stated : (file : List ℕ) (x y : State (Option ℕ)) (l b v : ℕ) (r : Result FileRead FileFault) (accepted : Bool) (text : List ℕ) →
+    (l ≡ 256) × ((b ≡ 2048) × (v ≡ 2048)) → listed x.book ≡ unopened → ReadsFile counts (handed l b v) file x y r → Says (listed y.book) r accepted text →
+    Stated file accepted text
+stated file x y l b v r accepted text (is-l, (is_b, is-v)) empty reads says =
+    record {
+      before = x;
+      after = y;
+      answer = r;
+      empty = empty;
+      reads = subst (λ (h : Handed). ReadsFile counts h file x y r) (handed_same is-l is_b is-v) reads;
+      says = says;
+    }

@@ -1,4 +1,5 @@
 pub mod Printed
 pub mod Told
 pub mod Tables
+pub mod Statements
 pub mod RoundTrips

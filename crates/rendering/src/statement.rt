@@ -1,14 +1,14 @@
 // The statement of a tariff file: a line for each kept level, or why the file is refused.
-ghost use Rattle.std.specs.Prelude.{◌≡◌, false, ◌++◌, length, IfOk, MatchBool, OnOk};
+ghost use Rattle.std.specs.Prelude.{◌≡◌, ◌≤◌, false, ◌++◌, length, take, IfOk, MatchBool, OnOk};
 ghost use Rattle.reckoning.specs.Counting.{counts};
 ghost use Rattle.book.specs.Declines.{handed, places_wrong};
 ghost use Rattle.book.specs.Laid.{places_of, Holds};
 ghost use Rattle.book.specs.Listed.{listed};
 ghost use Rattle.book.specs.Plain.{unopened};
 ghost use Rattle.rendering.specs.Tables.{Table, Refused, table_of, Stated};
-ghost use Rattle.rendering.specs.Printed.{level_text, refusal_text};
+ghost use Rattle.rendering.specs.Statements.{is_table, text_of};
 
-use crate::text::{level_line, refusal_line};
+use crate::text::{TooFew, level_line, refusal_line};
 use book::book::Book;
 use reckoning::claims::Claims;
 use reckoning::grains::Grains;
@@ -21,34 +21,36 @@ const LEVELS: usize = 256;
 // The places for them in each of eight scenarios.
 const VALUES: usize = 2048;
 
-// A statement, and whether it is a table of levels.
+// Enough bytes for each line of a statement.
+const LINE: usize = 64;
+
+// A statement, with its bytes: a table of levels, or a refusal.
 #[derive(Drop)]
-pub struct Statement {
-    pub text: Vec<u8>,
-    pub accepted: bool,
+pub enum Statement {
+    Table(Vec<u8>),
+    Refusal(Vec<u8>),
 }
 
-// Appends the line of a level. The line has at most 63 bytes.
-fn append_level(text: &mut Vec<u8>, level: u32, lower: u64, upper: u64) -> Result<(), AllocError>
-    ensures { OnOk result (text.new.items ≡ text.old.items ++ level_text level lower upper) }
-{
-    let mut line = [0u8; 64];
-    let Ok(length) = level_line(&mut line, level, lower, upper) else {
-        return unreachable();
-    };
-    text.extend_from_slice(&line[0..length])?;
-    Ok(())
+impl Statement {
+    // The bytes to print.
+    pub fn into_text(self) -> Vec<u8>
+        ensures value { result.items ≡ text_of self }
+    {
+        match self {
+            Statement::Table(text) => text,
+            Statement::Refusal(text) => text,
+        }
+    }
 }
 
-// Appends the line of a refusal. The line has at most 53 bytes.
-fn append_refusal(text: &mut Vec<u8>, number: u32, place: usize) -> Result<(), AllocError>
-    ensures { OnOk result (text.new.items ≡ text.old.items ++ refusal_text number place) }
+// Appends the line that a call has put at the front of the bytes.
+fn append(text: &mut Vec<u8>, bytes: &[u8], told: Result<usize, TooFew>) -> Result<(), AllocError>
+    requires within { IfOk told (λ k. k ≤ length bytes.now) }
+    ensures appends { OnOk result (IfOk told (λ k. text.new.items ≡ text.old.items ++ take k bytes.now)) }
 {
-    let mut line = [0u8; 64];
-    let Ok(length) = refusal_line(&mut line, number, place) else {
-        return unreachable();
-    };
-    text.extend_from_slice(&line[0..length])?;
+    if let Ok(length) = told {
+        text.extend_from_slice(&bytes[..length])?;
+    }
     Ok(())
 }
 
@@ -65,10 +67,11 @@ fn table(
 {
     let mut text = Vec::new(heap);
     let kept = book.levels_kept().min(levels.len());
-    for i in 0..kept {
-        let level = levels[i];
-        if let Ok((lower, upper)) = book.chance::<Claims>(0, level, levels, bounds, values) {
-            append_level(&mut text, level, lower, upper)?;
+    for level in &levels[..kept] {
+        if let Ok((lower, upper)) = book.chance::<Claims>(0, *level, levels, bounds, values) {
+            let mut line = [0u8; LINE];
+            let told = level_line(&mut line, *level, lower, upper);
+            append(&mut text, &line, told)?;
         }
     }
     Ok(text)
@@ -85,32 +88,28 @@ fn state_file(
 ) -> Result<Statement, AllocError>
     requires empty { listed book.old ≡ unopened }
     requires places { (length levels.old ≡ 256) × ((length bounds.old ≡ 2048) × (length values.old ≡ 2048)) }
-    ensures told { IfOk result (λ s. MatchBool s.accepted (Table s.text.items) (Refused s.text.items)) }
-    ensures stated { IfOk result (λ s. Stated file.now s.accepted s.text.items) }
+    ensures told { IfOk result (λ s. MatchBool (is_table s) (Table (text_of s)) (Refused (text_of s))) }
+    ensures stated { IfOk result (λ s. Stated file.now (is_table s) (text_of s)) }
 {
     match read::<Claims>(book, file, levels, bounds, values) {
         Ok(_) => {
             let text = table(heap, book, levels, bounds, values)?;
-            Ok(Statement {
-                text,
-                accepted: true,
-            })
+            Ok(Statement::Table(text))
         }
         Err(fault) => {
             let mut text = Vec::new(heap);
-            append_refusal(&mut text, fault.number(), fault.place())?;
-            Ok(Statement {
-                text,
-                accepted: false,
-            })
+            let mut line = [0u8; LINE];
+            let told = refusal_line(&mut line, fault.number(), fault.place());
+            append(&mut text, &line, told)?;
+            Ok(Statement::Refusal(text))
         }
     }
 }
 
 // The statement of a file, over 256 level places; only want of memory stops it.
 pub fn statement_of(heap: Global, file: &[u8]) -> Result<Statement, AllocError>
-    ensures told { IfOk result (λ s. MatchBool s.accepted (Table s.text.items) (Refused s.text.items)) }
-    ensures stated { IfOk result (λ s. Stated file.now s.accepted s.text.items) }
+    ensures told { IfOk result (λ s. MatchBool (is_table s) (Table (text_of s)) (Refused (text_of s))) }
+    ensures stated { IfOk result (λ s. Stated file.now (is_table s) (text_of s)) }
 {
     let mut book = Book::new(heap)?;
     let mut places: Vec<u32> = vec![in heap; 0; LEVELS]?;

@@ -1,14 +1,17 @@
 // Writing a tariff file: the S lines, the C lines, the trailer.
-ghost use Rattle.std.specs.Prelude.{◌≡◌, ◌+◌, ◌*◌, ◌≤◌, ◌∷◌, ◌++◌, map, length, take, drop, decimal};
+ghost use Rattle.std.specs.Prelude.{◌≡◌, ℕ, ◌+◌, ◌*◌, ◌≤◌, List, ◌∷◌, ◌++◌, [], length, drop};
+ghost use Rattle.std.specs.List.{flat_map};
+ghost use Rattle.arrayvec.specs.ArrayVec.{array_vec_len};
 ghost use Rattle.book.specs.Entries.{entry_of};
 ghost use Rattle.book.specs.Listed.{listed};
-ghost use Rattle.tariff.specs.Files.{numbers_of, shares_text, contracts_text, file_text};
+ghost use Rattle.tariff.specs.Files.{numbers_of, file_text};
 ghost use Rattle.lines.specs.Places.{written};
-ghost use Rattle.lines.specs.Texts.{line_text, numbers_text, padded, trailer_text};
+ghost use Rattle.lines.specs.Texts.{line_text, trailer_text};
 ghost use Rattle.rendering.specs.Told.{Tells};
 
-use crate::digits::{digit_count, put_bytes, put_number, put_padded};
+use crate::line::{Line, put_spaced, put_spaced_digits};
 use crate::text::TooFew;
+use arrayvec::ArrayVec;
 use book::book::Book;
 use book::contract::Contract;
 use lines::trailer::Trailer;
@@ -31,7 +34,8 @@ fn file_length(book: &Book) -> usize
 {
     let shares = book.shares();
     let contracts = book.contracts();
-    shares_length(shares) + contracts_length(contracts, shares.len()) + 18
+    let scenarios = shares.len();
+    lines_length(shares, scenarios) + lines_length(contracts, scenarios) + 18
 }
 
 // Puts the file of a book at the front.
@@ -41,157 +45,119 @@ fn put_file(book: &Book, out: &mut [u8])
 {
     let shares = book.shares();
     let contracts = book.contracts();
-    let place = put_shares(out, shares);
-    let end = put_contracts(out, place, contracts, shares.len());
-    let trailer = Trailer {
+    let scenarios = shares.len();
+    let place = put_lines(out, 0, shares, scenarios);
+    let end = put_lines(out, place, contracts, scenarios);
+    let trailer = trailer_line(Trailer {
         ceiling: book.ceiling(),
-        scenarios: shares.len(),
+        scenarios,
         contracts: contracts.len(),
         place,
-    };
-    put_trailer(out, end, trailer);
+    });
+    put_line(out, end, &trailer);
 }
 
-// How long the S lines are.
-fn shares_length(shares: &[u32]) -> usize
-    requires few { length shares.now ≤ 8 }
-    ensures value { result ≡ length (shares_text shares.now) }
-    ensures bound { result ≤ 184 }
-{
-    let mut length: usize = 0;
-    for share in shares {
-        length += line_length(&[*share]);
+// What has a line in the file of a book.
+trait Lined {
+    // the bytes of its line in a book of so many scenarios
+    ghost text: { ℕ → Self → List ℕ };
+
+    fn line(&self, scenarios: usize) -> Line
+        ensures text { result.items ≡ text scenarios self.now }
+        ensures short { array_vec_len result ≤ 256 };
+}
+
+// A share has an S line.
+impl Lined for u32 {
+    ghost text = { λ scenarios share. line_text 83 (share ∷ []) };
+
+    fn line(&self, _scenarios: usize) -> Line {
+        line_of(b'S', &[*self])
     }
-    length
 }
 
-// How long the C lines are.
-fn contracts_length(contracts: &[Contract], scenarios: usize) -> usize
-    requires few { length contracts.now ≤ 256 }
-    requires fit { scenarios ≤ 8 }
-    ensures value { result ≡ length (contracts_text (map (entry_of scenarios) contracts.now)) }
-    ensures bound { result ≤ 54272 }
-{
-    let mut length: usize = 0;
-    for contract in contracts {
-        let numbers = numbers_of(contract, scenarios);
-        length += line_length(&numbers[0..scenarios + 2]);
+// A contract has a C line.
+impl Lined for Contract {
+    ghost text = { λ scenarios contract. line_text 67 (numbers_of (entry_of scenarios contract)) };
+
+    fn line(&self, scenarios: usize) -> Line {
+        let numbers = numbers_of(self, scenarios);
+        line_of(b'C', numbers.as_slice())
     }
-    length
 }
 
-// Puts the S lines at the front, and answers the place behind them.
-fn put_shares(out: &mut [u8], shares: &[u32]) -> usize
-    requires fits { length (shares_text shares.now) ≤ length out.old }
-    ensures value { result ≡ length (shares_text shares.now) }
-    ensures after { out.new ≡ written out.old 0 (shares_text shares.now) }
+// How long the lines of these are together.
+fn lines_length<T: Lined>(items: &[T], scenarios: usize) -> usize
+    requires few { length items.now ≤ 256 }
+    ensures value { result ≡ length (flat_map (T.text scenarios) items.now) }
+    ensures bound { result ≤ 65536 }
 {
-    let mut at = 0;
-    for share in shares {
-        at = put_line(out, at, b'S', &[*share]);
-    }
-    at
+    items.iter().map(|item| item.line(scenarios).len()).sum()
 }
 
-// Puts the C lines, and answers the place behind them.
-fn put_contracts(out: &mut [u8], from: usize, contracts: &[Contract], scenarios: usize) -> usize
-    requires fit { scenarios ≤ 8 }
-    requires fits { from + length (contracts_text (map (entry_of scenarios) contracts.now)) ≤ length out.old }
-    ensures value { result ≡ from + length (contracts_text (map (entry_of scenarios) contracts.now)) }
-    ensures after { out.new ≡ written out.old from (contracts_text (map (entry_of scenarios) contracts.now)) }
+// Puts the lines of these in turn, and answers the place behind them.
+fn put_lines<T: Lined>(out: &mut [u8], from: usize, items: &[T], scenarios: usize) -> usize
+    requires fits { from + length (flat_map (T.text scenarios) items.now) ≤ length out.old }
+    ensures value { result ≡ from + length (flat_map (T.text scenarios) items.now) }
+    ensures after { out.new ≡ written out.old from (flat_map (T.text scenarios) items.now) }
 {
     let mut at = from;
-    for contract in contracts {
-        let numbers = numbers_of(contract, scenarios);
-        at = put_line(out, at, b'C', &numbers[0..scenarios + 2]);
+    for item in items {
+        at = put_line(out, at, &item.line(scenarios));
     }
     at
 }
 
-// The numbers of a contract's C line, with zeros behind them.
-fn numbers_of(contract: &Contract, scenarios: usize) -> [u32; 11]
-    requires fit { scenarios ≤ 8 }
-    ensures value { take (scenarios + 2) result ≡ numbers_of (entry_of scenarios contract.now) }
-    ensures eleven { length result ≡ 11 }
+// Puts a line, and answers the place behind it. The place goes along: a struct of both would have to say in each clause whose bytes it holds.
+fn put_line(out: &mut [u8], from: usize, line: &Line) -> usize
+    requires fits { from + array_vec_len line.now ≤ length out.old }
+    ensures value { result ≡ from + array_vec_len line.now }
+    ensures after { out.new ≡ written out.old from line.now.items }
 {
-    let mut numbers = [0u32; 11];
-    numbers[0] = contract.key();
-    numbers[1] = contract.loss();
-    let rates = contract.rates();
-    for s in 0..scenarios {
-        let rate = &rates[s];
-        numbers[s + 2] = rate.millionths();
+    let end = from + line.len();
+    out[from..end].copy_from_slice(line.as_slice());
+    end
+}
+
+// The numbers of a contract's C line.
+fn numbers_of(contract: &Contract, scenarios: usize) -> ArrayVec<u32, 10>
+    ensures value { result.items ≡ numbers_of (entry_of scenarios contract.now) }
+{
+    let mut numbers = ArrayVec::new();
+    numbers.push(contract.key());
+    numbers.push(contract.loss());
+    for rate in contract.rates().iter().take(scenarios) {
+        numbers.push(rate.millionths());
     }
     numbers
 }
 
-// How long a line of these numbers is.
-pub(crate) fn line_length(numbers: &[u32]) -> usize
-    requires few { length numbers.now ≤ 65536 }
-    ensures value { result ≡ length (numbers_text numbers.now) + 2 }
-    ensures bound { result ≤ 21 * length numbers.now + 2 }
+// A line of a letter and at most ten numbers.
+fn line_of(letter: u8, numbers: &[u32]) -> Line
+    requires few { length numbers.now ≤ 10 }
+    ensures text { result.items ≡ line_text letter numbers.now }
+    ensures short { array_vec_len result ≤ 256 }
 {
-    let mut length: usize = 2;
+    let mut line = Line::new();
+    line.push(letter);
     for n in numbers {
-        length += digit_count(u64::from(*n)) + 1;
+        put_spaced(&mut line, u64::from(*n));
     }
-    length
+    line.push(b'\n');
+    line
 }
 
-// Puts a line, and answers the place behind it.
-pub(crate) fn put_line(out: &mut [u8], from: usize, letter: u8, numbers: &[u32]) -> usize
-    requires fits { from + length (line_text letter numbers.now) ≤ length out.old }
-    ensures value { result ≡ from + length (line_text letter numbers.now) }
-    ensures after { out.new ≡ written out.old from (line_text letter numbers.now) }
+// The line of a trailer.
+fn trailer_line(trailer: Trailer) -> Line
+    ensures text { result.items ≡ trailer_text trailer.ceiling trailer.scenarios trailer.contracts trailer.place }
+    ensures short { array_vec_len result ≡ 18 }
 {
-    let behind_letter = put_bytes(out, from, &[letter]);
-    let behind_numbers = put_numbers(out, behind_letter, numbers);
-    put_bytes(out, behind_numbers, b"\n")
-}
-
-// Puts each number behind a space, and answers the place behind them.
-fn put_numbers(out: &mut [u8], from: usize, numbers: &[u32]) -> usize
-    requires fits { from + length (numbers_text numbers.now) ≤ length out.old }
-    ensures value { result ≡ from + length (numbers_text numbers.now) }
-    ensures after { out.new ≡ written out.old from (numbers_text numbers.now) }
-{
-    let mut at = from;
-    for n in numbers {
-        at = put_spaced(out, at, u64::from(*n));
-    }
-    at
-}
-
-// Puts a space and a number, and answers the place behind them.
-fn put_spaced(out: &mut [u8], from: usize, n: u64) -> usize
-    requires fits { from + length (32 ∷ decimal n) ≤ length out.old }
-    ensures value { result ≡ from + length (32 ∷ decimal n) }
-    ensures after { out.new ≡ written out.old from (32 ∷ decimal n) }
-{
-    let behind = put_bytes(out, from, b" ");
-    put_number(out, behind, n)
-}
-
-// Puts the trailer.
-pub(crate) fn put_trailer(out: &mut [u8], from: usize, trailer: Trailer)
-    requires fits { from + 18 ≤ length out.old }
-    ensures after { out.new ≡ written out.old from (trailer_text trailer.ceiling trailer.scenarios trailer.contracts trailer.place) }
-{
-    let ceiling_at = put_bytes(out, from, b"T");
-    let scenarios_at = put_spaced_digits(out, ceiling_at, 5, u64::from(trailer.ceiling));
-    let contracts_at = put_spaced_digits(out, scenarios_at, 1, trailer.scenarios as u64);
-    let place_at = put_spaced_digits(out, contracts_at, 3, trailer.contracts as u64);
-    let end = put_spaced_digits(out, place_at, 3, trailer.place as u64);
-    put_bytes(out, end, b"\n");
-}
-
-// Puts a space and the last `count` digits of a number, and answers the place behind them.
-fn put_spaced_digits(out: &mut [u8], from: usize, count: usize, n: u64) -> usize
-    requires fits { from + (count + 1) ≤ length out.old }
-    ensures value { result ≡ from + (count + 1) }
-    ensures after { out.new ≡ written out.old from (32 ∷ padded count n) }
-{
-    let behind = put_bytes(out, from, b" ");
-    put_padded(out, behind, count, n);
-    behind + count
+    let mut line = Line::new();
+    line.push(b'T');
+    put_spaced_digits(&mut line, 5, u64::from(trailer.ceiling));
+    put_spaced_digits(&mut line, 1, trailer.scenarios as u64);
+    put_spaced_digits(&mut line, 3, trailer.contracts as u64);
+    put_spaced_digits(&mut line, 3, trailer.place as u64);
+    line.push(b'\n');
+    line
 }

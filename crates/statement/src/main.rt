@@ -2,7 +2,7 @@
 #![tactic(auto)]
 
 use anyhow::anyhow;
-use rendering::statement::statement_of;
+use rendering::statement::{Statement, statement_of};
 use std::io::Read;
 
 fn main(rt: HostRuntime) -> anyhow::Result<()> {
@@ -14,12 +14,12 @@ fn run(rt: &HostRuntime) -> anyhow::Result<()> {
     let heap = rt.alloc();
     let mut file: Vec<u8> = Vec::new(heap);
     rt.stdin().read_to_end(&mut file)?;
-    let statement = statement_of(heap, &file[..])?;
-    write_all(rt, &statement.text[..])?;
-    if statement.accepted {
-        Ok(())
-    } else {
-        Err(anyhow!("the file is refused; docs/refusals.md tells what the number means"))
+    match statement_of(heap, &file[..])? {
+        Statement::Table(text) => write_all(rt, &text[..]),
+        Statement::Refusal(text) => {
+            write_all(rt, &text[..])?;
+            Err(anyhow!("the file is refused; docs/refusals.md tells what the number means"))
+        }
     }
 }
 

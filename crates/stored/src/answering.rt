@@ -14,6 +14,6 @@ pub enum Statements {}
 impl Answering for Statements {
     fn answer(rt: &HostRuntime, input: &str) -> anyhow::Result<Vec<u8>> {
         let file = fs::read(rt, input)?;
-        Ok(statement_of(rt.alloc(), &file[..])?.text)
+        Ok(statement_of(rt.alloc(), &file[..])?.into_text())
     }
 }

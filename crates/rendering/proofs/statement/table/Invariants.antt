@@ -9,10 +9,10 @@ use Rattle.rendering.specs.Tables.{Table, levels_text}
 use Rattle.rendering.proofs.statement.table.Given as goal
 
 -- so far there are lines of levels; over places that hold the book, those of the first kept levels
-abbrev pub invariant-loop-i : goal.invariant-loop-i
-invariant-loop-i l = record {
+abbrev pub invariant-loop-level : goal.invariant-loop-level
+invariant-loop-level l = record {
   rows : Table (vec_items l.text);
   kept :
       places_wrong (handed (length l.levels) (length l.bounds) (length l.values)) (listed l.book) ≡ false → Holds counts l.book (places_of l.levels l.bounds l.values) →
-      vec_items l.text ≡ levels_text (listed l.book) (take l.i (kept (listed l.book).ceiling (losses (listed l.book))));
+      vec_items l.text ≡ levels_text (listed l.book) (take l.level-index (kept (listed l.book).ceiling (losses (listed l.book))));
 }

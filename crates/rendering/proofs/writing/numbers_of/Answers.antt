@@ -1,30 +1,16 @@
-use Rattle.std.proofs.Common.{◌≡◌, ℕ, ◌+◌, List, [], ◌∷◌, length, get_or, take, refl, ap, ◌∙◌, subst, arith, length-set}
+use Rattle.std.proofs.Common.{ℕ, List, ◌∷◌, sym, ap, ◌∙◌}
+use Rattle.std.proofs.lemmas.Iterator.{YieldsList-from_slice, YieldsList-from_take}
+use Rattle.std.proofs.lemmas.Iterator.Consumers.{YieldsList-end}
+use Rattle.std.proofs.lemmas.Simd.{map-map}
 use Rattle.reckoning.specs.declared.rate.Rate.{Rate}
-use Rattle.book.specs.Entries.{entry_of}
-use Rattle.tariff.specs.Files.{numbers_of}
-use Rattle.rendering.proofs.FilesPut.{numbers_more}
+use Rattle.book.specs.Entries.{millionths_of}
 use Rattle.rendering.proofs.writing.numbers_of.Goals as goal
-
-pub loop-s-init : goal.loop-s-init
-loop-s-init c = (refl, ap (λ (k : ℕ). k ∷ (c.loss.result ∷ [])) c.key.ensures.value ∙ ap (λ (w : ℕ). c.args.contract.now.key ∷ (w ∷ [])) c.loss.ensures.value)
-
-pub loop-s-preserved : goal.loop-s-preserved
-loop-s-preserved c =
-    let contract = c.args.contract.now in
-    let rate = c.index-rates-s.result in
-    let same = c.rates-rates.ensures.value in
-    let l = c.rates-rates.ensures.eight in
-    let m = ap length same in
-    let set-length = length-set c.loop-s.numbers (c.loop-s.s + 2) c.millionths.result in (
-      omega (arith, c.loop-s.invariant.0),
-      numbers_more contract.key contract.loss.units c.loop-s.s c.millionths.result contract.rates rate c.loop-s.numbers
-          (omega arith) (omega (arith, c.loop-s.invariant.0)) (c.index-rates-s.is ∙ ap (λ (rates : List Rate). get_or rates c.loop-s.s rate) same) c.millionths.ensures c.loop-s.invariant.1,
-    )
 
 pub returns : goal.returns
 returns c =
-    let end : c.loop-s.s ≡ c.args.scenarios = omega arith in
+    let contract = c.args.contract.now in
+    let rates = YieldsList-end (YieldsList-from_take c.args.scenarios (YieldsList-from_slice contract.rates cc) cc) c.loop-rate.yielded _ c.loop-rate.yielded_by _ _ c.in-None.is c.next.ensures.steps in
     record {
-      value = subst (λ (s : ℕ). take (s + 2) c.loop-s.numbers ≡ numbers_of (entry_of s c.args.contract.now)) end c.loop-s.invariant.1;
-      eleven = c.loop-s.invariant.0;
+      value = c.loop-rate.invariant.so_far
+          ∙ ap (λ (ns : List ℕ). contract.key ∷ (contract.loss.units ∷ ns)) (sym (map-map (λ (r : Rate). r.millionths) (λ r. r.now) c.loop-rate.yielded) ∙ ap millionths_of rates.0);
     }

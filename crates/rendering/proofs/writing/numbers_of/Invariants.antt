@@ -1,7 +1,9 @@
-use Rattle.std.proofs.Common.{◌≡◌, ◌+◌, length, take}
-use Rattle.book.specs.Entries.{entry_of}
-use Rattle.tariff.specs.Files.{numbers_of}
+use Rattle.std.proofs.Common.{◌≡◌, ◌∷◌, map}
 use Rattle.rendering.proofs.writing.numbers_of.Given as goal
 
-abbrev pub invariant-loop-s : goal.invariant-loop-s
-invariant-loop-s l = (length l.numbers ≡ 11) × (take (l.s + 2) l.numbers ≡ numbers_of (entry_of l.s l.contract))
+abbrev pub invariant-loop-rate : goal.invariant-loop-rate
+invariant-loop-rate l = record {
+  goes : (goal.iterator-loop-rate).can_next l.rate-iterator;
+  ends : (goal.iterator-loop-rate).is_finite l.rate-iterator;
+  so_far : l.numbers.items ≡ l.contract.key ∷ (l.contract.loss.units ∷ map (λ r. r.now.millionths) l.yielded);
+}
