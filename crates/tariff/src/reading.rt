@@ -1,5 +1,5 @@
 // Reading a tariff file: the form of the whole file, then open, then line by line.
-ghost use Rattle.std.specs.Prelude.{◌≡◌, ◌<◌, ◌≤◌, false, [], length, IfOk, IfErr, MatchResult, OnOk};
+ghost use Rattle.std.specs.Prelude.{◌≡◌, ◌+◌, ◌<◌, ◌≤◌, false, [], length, IfOk, IfErr, MatchResult, OnOk};
 ghost use Rattle.book.specs.Declines.{handed, places_wrong};
 ghost use Rattle.book.specs.Laid.{places_of, state, Holds};
 ghost use Rattle.book.specs.Listed.{listed};
@@ -70,9 +70,10 @@ impl ContractPart<'_> {
 
     // How many C lines there are; the first line that is none is told.
     fn count_lines(&self) -> Result<usize, LineFault>
-        ensures { Counts self.now.bytes.now self.now.base self.now.count result }
+        ensures { Counts self.now.bytes.now self.now.base (2 + self.now.scenarios) result }
     {
-        let count = self.count;
+        let count = 2 + self.scenarios;
+        // The most numbers that a line has, since read is handed no memory for a Vec.
         let mut numbers = [0u32; 11];
         let mut place = 0;
         let mut lines: usize = 0;
@@ -94,14 +95,15 @@ impl ContractPart<'_> {
         values: &mut [R::Value],
     ) -> Result<usize, FileFault>
         requires within { place < length self.now.bytes.now }
-        requires lines { LinesFrom self.now.bytes.now place 67 self.now.count }
+        requires lines { LinesFrom self.now.bytes.now place 67 (2 + self.now.scenarios) }
         requires places { places_wrong (handed (length levels.old) (length bounds.old) (length values.old)) (listed book.old) ≡ false }
-        ensures walks { IfOk result (λ next. (place < next) × (next ≤ length self.now.bytes.now) × LinesFrom self.now.bytes.now next 67 self.now.count) }
+        ensures walks { IfOk result (λ next. (place < next) × (next ≤ length self.now.bytes.now) × LinesFrom self.now.bytes.now next 67 (2 + self.now.scenarios)) }
         ensures places { OnOk result (places_wrong (handed (length levels.new) (length bounds.new) (length values.new)) (listed book.new) ≡ false) }
-        ensures enters { Holds R.Reckoning.operations book.old (places_of levels.old bounds.old values.old) → EntersLine R.Reckoning.operations (handed (length levels.old) (length bounds.old) (length values.old)) self.now.bytes.now self.now.base self.now.count place (state book.old levels.old bounds.old values.old) (state book.new levels.new bounds.new values.new) result }
+        ensures enters { Holds R.Reckoning.operations book.old (places_of levels.old bounds.old values.old) → EntersLine R.Reckoning.operations (handed (length levels.old) (length bounds.old) (length values.old)) self.now.bytes.now self.now.base (2 + self.now.scenarios) place (state book.old levels.old bounds.old values.old) (state book.new levels.new bounds.new values.new) result }
     {
         let begin = self.base + place;
-        let count = self.count;
+        let count = 2 + self.scenarios;
+        // The most numbers that a line has, since read is handed no memory for a Vec.
         let mut numbers = [0u32; 11];
         let line = &mut numbers[..count];
         let next = self.line(place, line)?;
@@ -121,9 +123,9 @@ impl ContractPart<'_> {
         bounds: &mut [Grains],
         values: &mut [R::Value],
     ) -> Result<FileRead, FileFault>
-        requires lines { LinesFrom self.now.bytes.now 0 67 self.now.count }
+        requires lines { LinesFrom self.now.bytes.now 0 67 (2 + self.now.scenarios) }
         requires places { places_wrong (handed (length levels.old) (length bounds.old) (length values.old)) (listed book.old) ≡ false }
-        ensures { (listed book.old).contracts ≡ [] → Holds R.Reckoning.operations book.old (places_of levels.old bounds.old values.old) → EntersPart R.Reckoning.operations (handed (length levels.old) (length bounds.old) (length values.old)) self.now.bytes.now self.now.base self.now.count (state book.old levels.old bounds.old values.old) (state book.new levels.new bounds.new values.new) result }
+        ensures { (listed book.old).contracts ≡ [] → Holds R.Reckoning.operations book.old (places_of levels.old bounds.old values.old) → EntersPart R.Reckoning.operations (handed (length levels.old) (length bounds.old) (length values.old)) self.now.bytes.now self.now.base (2 + self.now.scenarios) (state book.old levels.old bounds.old values.old) (state book.new levels.new bounds.new values.new) result }
     {
         let mut place = 0;
         // A while, as where the lines are counted.
@@ -152,7 +154,7 @@ fn check_form(file: &[u8], shares: &mut [u32]) -> Result<Trailer, FileFault>
     let part = ContractPart {
         bytes: &file[place..at],
         base: place,
-        count: 2 + scenarios,
+        scenarios,
     };
     let lines = part.count_lines()?;
     if lines != trailer.contracts {
@@ -173,6 +175,7 @@ pub fn read<R: Reckoning>(
     ensures comes { IfErr result (MayCome (length file.now)) }
     ensures unchanged { IfErr result (λ e. (telling e).number ≤ 7 → state book.new levels.new bounds.new values.new ≡ state book.old levels.old bounds.old values.old) }
 {
+    // The most scenarios that a trailer can tell, since read is handed no memory for a Vec.
     let mut shares = [0u32; 9];
     let trailer = check_form(file, &mut shares)?;
     let scenarios = trailer.scenarios;
@@ -190,7 +193,7 @@ pub fn read<R: Reckoning>(
     let part = ContractPart {
         bytes,
         base: place,
-        count: 2 + scenarios,
+        scenarios,
     };
     part.enter::<R>(book, levels, bounds, values)
 }

@@ -67,6 +67,7 @@ fn a_declined_line_leaves_those_before_it(rt: HostRuntime) -> Result<(), Fail> {
     };
     assert_eq!(rt; fault.number(), 11);
     assert_eq!(rt; fault.place(), 38);
+    assert_eq!(rt; fault.to_string(rt.alloc())?.as_str(), "refused 11 at 38");
     assert_eq!(rt; levels, [0, 2, 3, 5, 9]);
     assert_eq!(rt; book.levels_kept(), 4);
     Ok(())

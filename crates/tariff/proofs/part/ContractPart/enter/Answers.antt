@@ -1,4 +1,4 @@
-use Rattle.std.proofs.Common.{length, arith}
+use Rattle.std.proofs.Common.{◌+◌, length, arith}
 use Rattle.std.proofs.lemmas.Result.{err_from_is_err_and}
 use Rattle.book.specs.Declines.{handed}
 use Rattle.book.specs.Laid.{state}
@@ -11,7 +11,7 @@ loop-place-init g c =
     let h = handed (length c.args.levels.now) (length c.args.bounds.now) (length c.args.values.now) in
     let x = state c.args.book.now c.args.levels.now c.args.bounds.now c.args.values.now in
     let lines = c.requires.lines in
-    (omega arith, lines, c.requires.places, λ empty holds. so_far_none g.R.Reckoning.operations h c.args.self.now.bytes.now c.args.self.now.count (omega arith) x lines empty holds)
+    (omega arith, lines, c.requires.places, λ empty holds. so_far_none g.R.Reckoning.operations h c.args.self.now.bytes.now (2 + c.args.self.now.scenarios) (omega arith) x lines empty holds)
 
 pub returns-in_err-place : goal.returns-in_err-place
 returns-in_err-place g c =
@@ -26,7 +26,7 @@ returns-in_err-place g c =
     let declined = c.in_err-place.ensures in
     λ empty holds.
     let so = c.loop-place.invariant.3 empty holds in
-    rw (p.1, p.2) (part_declined g.R.Reckoning.operations (handed l b v) c.args.self.now.bytes.now c.args.self.now.count (omega arith) x c.args.self.now.base c.loop-place.place y z _ c.in_err-place.field-0.0 same so (declined.enters so.entered.holds))
+    rw (p.1, p.2) (part_declined g.R.Reckoning.operations (handed l b v) c.args.self.now.bytes.now (2 + c.args.self.now.scenarios) (omega arith) x c.args.self.now.base c.loop-place.place y z _ c.in_err-place.field-0.0 same so (declined.enters so.entered.holds))
 
 pub loop-place-preserved : goal.loop-place-preserved
 loop-place-preserved g c =
@@ -43,7 +43,7 @@ loop-place-preserved g c =
       entered.places,
       λ empty holds.
           let so = c.loop-place.invariant.3 empty holds in
-          so_far_more g.R.Reckoning.operations (handed l b v) c.args.self.now.bytes.now c.args.self.now.count (omega arith) x c.args.self.now.base c.loop-place.place c.in_ok-place.place y z _ same so (entered.enters so.entered.holds),
+          so_far_more g.R.Reckoning.operations (handed l b v) c.args.self.now.bytes.now (2 + c.args.self.now.scenarios) (omega arith) x c.args.self.now.base c.loop-place.place c.in_ok-place.place y z _ same so (entered.enters so.entered.holds),
     )
 
 pub loop-place-smaller : goal.loop-place-smaller
@@ -54,4 +54,4 @@ returns g c =
     let h = handed (length c.args.levels.now) (length c.args.bounds.now) (length c.args.values.now) in
     let x = state c.args.book.now c.args.levels.now c.args.bounds.now c.args.values.now in
     let y = state c.loop-place.book c.loop-place.levels c.loop-place.bounds c.loop-place.values in
-    λ empty holds. part_entered g.R.Reckoning.operations h c.args.self.now.bytes.now c.args.self.now.count (omega arith) x c.loop-place.place y (omega arith) (c.loop-place.invariant.3 empty holds)
+    λ empty holds. part_entered g.R.Reckoning.operations h c.args.self.now.bytes.now (2 + c.args.self.now.scenarios) (omega arith) x c.loop-place.place y (omega arith) (c.loop-place.invariant.3 empty holds)

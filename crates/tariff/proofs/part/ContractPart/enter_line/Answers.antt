@@ -17,8 +17,8 @@ returns-in_err-next g c =
     let part = c.args.self.now in
     let ns = c.line.new.numbers in
     let kept = c.line.auto.numbers in
-    let size : length ns ≡ part.count = omega (arith, kept, length-take {A = ℕ}) in
-    absurd (no_fault part.count (omega arith) part.bytes.now part.base c.args.place ns c.in_err-next.field-0.0 (omega arith) c.requires.lines size c.in_err-next.ensures)
+    let size : length ns ≡ 2 + part.scenarios = omega (arith, kept, length-take {A = ℕ}) in
+    absurd (no_fault (2 + part.scenarios) (omega arith) part.bytes.now part.base c.args.place ns c.in_err-next.field-0.0 (omega arith) c.requires.lines size c.in_err-next.ensures)
 
 pub returns-in_err-map_err-clause-enters : goal.returns-in_err-map_err-clause-enters
 returns-in_err-map_err-clause-enters g c =
@@ -26,8 +26,8 @@ returns-in_err-map_err-clause-enters g c =
     let place = part.base + c.args.place in
     let ns = c.line.new.numbers in
     let kept = c.line.auto.numbers in
-    let size : length ns ≡ part.count = omega (arith, kept, length-take {A = ℕ}) in
-    let line = line_of_read part.count (omega arith) part.bytes.now c.args.place c.in_ok-next.next ns (omega arith) c.requires.lines size c.in_ok-next.ensures in
+    let size : length ns ≡ 2 + part.scenarios = omega (arith, kept, length-take {A = ℕ}) in
+    let line = line_of_read (2 + part.scenarios) (omega arith) part.bytes.now c.args.place c.in_ok-next.next ns (omega arith) c.requires.lines size c.in_ok-next.ensures in
     let h = handed (length c.args.levels.now) (length c.args.bounds.now) (length c.args.values.now) in
     let x = state c.args.book.now c.args.levels.now c.args.bounds.now c.args.values.now in
     let y = state c.enter.new.self c.enter.new.levels c.enter.new.bounds c.enter.new.values in
@@ -45,17 +45,17 @@ returns-clause-walks g c =
     let part = c.args.self.now in
     let ns = c.line.new.numbers in
     let kept = c.line.auto.numbers in
-    let size : length ns ≡ part.count = omega (arith, kept, length-take {A = ℕ}) in
-    let line = line_of_read part.count (omega arith) part.bytes.now c.args.place c.in_ok-next.next ns (omega arith) c.requires.lines size c.in_ok-next.ensures in
-    walks_on part.bytes.now part.count c.args.place c.in_ok-next.next (entry_from ns) line
+    let size : length ns ≡ 2 + part.scenarios = omega (arith, kept, length-take {A = ℕ}) in
+    let line = line_of_read (2 + part.scenarios) (omega arith) part.bytes.now c.args.place c.in_ok-next.next ns (omega arith) c.requires.lines size c.in_ok-next.ensures in
+    walks_on part.bytes.now (2 + part.scenarios) c.args.place c.in_ok-next.next (entry_from ns) line
 
 pub returns-clause-enters : goal.returns-clause-enters
 returns-clause-enters g c =
     let part = c.args.self.now in
     let ns = c.line.new.numbers in
     let kept = c.line.auto.numbers in
-    let size : length ns ≡ part.count = omega (arith, kept, length-take {A = ℕ}) in
-    let line = line_of_read part.count (omega arith) part.bytes.now c.args.place c.in_ok-next.next ns (omega arith) c.requires.lines size c.in_ok-next.ensures in
+    let size : length ns ≡ 2 + part.scenarios = omega (arith, kept, length-take {A = ℕ}) in
+    let line = line_of_read (2 + part.scenarios) (omega arith) part.bytes.now c.args.place c.in_ok-next.next ns (omega arith) c.requires.lines size c.in_ok-next.ensures in
     let h = handed (length c.args.levels.now) (length c.args.bounds.now) (length c.args.values.now) in
     let x = state c.args.book.now c.args.levels.now c.args.bounds.now c.args.values.now in
     let y = state c.enter.new.self c.enter.new.levels c.enter.new.bounds c.enter.new.values in
