@@ -6,7 +6,8 @@ use Rattle.reckoning.specs.declared.grains.Grains.{Grains}
 use Rattle.reckoning.specs.Counting.{counts}
 use Rattle.reckoning.specs.Outcomes.{outside}
 use Rattle.reckoning.specs.Rounding.{pair}
-use Rattle.book.specs.Declines.{Handed, handed, places_wrong, chance_sentences}
+use Rattle.book.specs.Places.{Handed, handed}
+use Rattle.book.specs.Declines.{places_wrong, chance_sentences}
 use Rattle.book.specs.Figures.{chance}
 use Rattle.book.specs.Laid.{State, LevelsHold}
 use Rattle.book.specs.Levels.{kept}

@@ -1,7 +1,7 @@
 -- The statement of a file: a table of levels, one line for each kept level of the book that it gives, or one refusal.
 use Rattle.std.specs.Prelude.{◌≡◌, ℕ, Bool, true, false, List, [], ◌∷◌, ◌++◌, map, Ok, Err, Option, Result}
 use Rattle.reckoning.specs.Counting.{counts}
-use Rattle.book.specs.Declines.{handed}
+use Rattle.book.specs.Places.{handed}
 use Rattle.book.specs.Figures.{chance}
 use Rattle.book.specs.Laid.{State}
 use Rattle.book.specs.Levels.{kept}

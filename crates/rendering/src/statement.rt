@@ -1,15 +1,18 @@
 // The statement of a tariff file: a line for each kept level, or why the file is refused.
 ghost use Rattle.std.specs.Prelude.{◌≡◌, ◌≤◌, false, ◌++◌, length, take, IfOk, MatchBool, OnOk};
 ghost use Rattle.reckoning.specs.Counting.{counts};
-ghost use Rattle.book.specs.Declines.{handed, places_wrong};
-ghost use Rattle.book.specs.Laid.{places_of, Holds};
+ghost use Rattle.book.specs.Declines.{places_wrong};
+ghost use Rattle.book.specs.Laid.{Holds};
 ghost use Rattle.book.specs.Listed.{listed};
+ghost use Rattle.book.specs.Places.{handed, handed_of, held, shown};
 ghost use Rattle.book.specs.Plain.{unopened};
 ghost use Rattle.rendering.specs.Tables.{Table, Refused, table_of, Stated};
 ghost use Rattle.rendering.specs.Statements.{is_table, text_of};
 
 use crate::text::{TooFew, level_line, refusal_line};
 use book::book::Book;
+use book::places::Lent;
+use book::shown::Shown;
 use reckoning::claims::Claims;
 use reckoning::grains::Grains;
 use std::alloc::{AllocError, Global};
@@ -58,17 +61,15 @@ fn append(text: &mut Vec<u8>, bytes: &[u8], told: Result<usize, TooFew>) -> Resu
 fn table(
     heap: Global,
     book: &Book,
-    levels: &[u32],
-    bounds: &[Grains],
-    values: &[Option<u16>],
+    places: &Shown<'_, Option<u16>>,
 ) -> Result<Vec<u8>, AllocError>
     ensures rows { IfOk result (λ text. Table text.items) }
-    ensures kept { places_wrong (handed (length levels.now) (length bounds.now) (length values.now)) (listed book.now) ≡ false → Holds counts book.now (places_of levels.now bounds.now values.now) → IfOk result (λ text. text.items ≡ table_of (listed book.now)) }
+    ensures kept { places_wrong (handed_of (shown places.now)) (listed book.now) ≡ false → Holds counts book.now (shown places.now) → IfOk result (λ text. text.items ≡ table_of (listed book.now)) }
 {
     let mut text = Vec::new(heap);
-    let kept = book.levels_kept().min(levels.len());
-    for level in &levels[..kept] {
-        if let Ok((lower, upper)) = book.chance::<Claims>(0, *level, levels, bounds, values) {
+    let kept = book.levels_kept().min(places.levels.len());
+    for level in &places.levels[..kept] {
+        if let Ok((lower, upper)) = book.chance::<Claims>(0, *level, places) {
             let mut line = [0u8; LINE];
             let told = level_line(&mut line, *level, lower, upper);
             append(&mut text, &line, told)?;
@@ -82,18 +83,16 @@ fn state_file(
     heap: Global,
     book: &mut Book,
     file: &[u8],
-    levels: &mut [u32],
-    bounds: &mut [Grains],
-    values: &mut [Option<u16>],
+    places: &mut Lent<'_, Option<u16>>,
 ) -> Result<Statement, AllocError>
     requires empty { listed book.old ≡ unopened }
-    requires places { (length levels.old ≡ 256) × ((length bounds.old ≡ 2048) × (length values.old ≡ 2048)) }
+    requires places { handed_of (held places.old) ≡ handed 256 2048 2048 }
     ensures told { IfOk result (λ s. MatchBool (is_table s) (Table (text_of s)) (Refused (text_of s))) }
     ensures stated { IfOk result (λ s. Stated file.now (is_table s) (text_of s)) }
 {
-    match read::<Claims>(book, file, levels, bounds, values) {
+    match read::<Claims>(book, file, places) {
         Ok(_) => {
-            let text = table(heap, book, levels, bounds, values)?;
+            let text = table(heap, book, &places.shown())?;
             Ok(Statement::Table(text))
         }
         Err(fault) => {
@@ -112,15 +111,9 @@ pub fn statement_of(heap: Global, file: &[u8]) -> Result<Statement, AllocError>
     ensures stated { IfOk result (λ s. Stated file.now (is_table s) (text_of s)) }
 {
     let mut book = Book::new(heap)?;
-    let mut places: Vec<u32> = vec![in heap; 0; LEVELS]?;
+    let mut levels: Vec<u32> = vec![in heap; 0; LEVELS]?;
     let mut bounds: Vec<Grains> = vec![in heap; Grains { lower: 0, upper: 0 }; VALUES]?;
     let mut values: Vec<Option<u16>> = vec![in heap; None; VALUES]?;
-    state_file(
-        heap,
-        &mut book,
-        file,
-        &mut places[..],
-        &mut bounds[..],
-        &mut values[..],
-    )
+    let mut places = Lent::new(&mut levels[..], &mut bounds[..], &mut values[..]);
+    state_file(heap, &mut book, file, &mut places)
 }

@@ -4,7 +4,8 @@ use Rattle.std.specs.List.{AllByRecursion}
 use Rattle.std.proofs.lemmas.List.{length-take, length-drop, length-append, map-append, take_all}
 use Rattle.std.proofs.lemmas.Bool.{cases_Bool, cond-true, cond-false, eq-eqb}
 use Rattle.reckoning.specs.Operations.{Operations}
-use Rattle.book.specs.Declines.{Handed, places_wrong, open_sentences, enter_sentences}
+use Rattle.book.specs.declared.shown.Handed.{Handed}
+use Rattle.book.specs.Declines.{places_wrong, open_sentences, enter_sentences}
 use Rattle.book.specs.Laid.{State}
 use Rattle.book.specs.Listed.{listed}
 use Rattle.book.specs.Plain.{Entry, Plain, opened, with_entries}

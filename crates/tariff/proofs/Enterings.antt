@@ -3,7 +3,7 @@ use Rattle.std.proofs.Common.{◌≡◌, ℕ, ◌+◌, ◌<◌, ◌≤◌, List,
 use Rattle.std.proofs.lemmas.List.{length_push, take_at, take-append-le, get_or_append_left, get_or_push, map_push}
 use Rattle.std.proofs.lemmas.Bool.{cases_lt}
 use Rattle.reckoning.specs.Operations.{Operations}
-use Rattle.book.specs.Declines.{Handed}
+use Rattle.book.specs.declared.shown.Handed.{Handed}
 use Rattle.book.specs.Laid.{State, Holds, Outside}
 use Rattle.book.specs.Levels.{kept}
 use Rattle.book.specs.Listed.{listed}

@@ -3,7 +3,8 @@ use Rattle.std.proofs.Common.{◌≡◌, ℕ, ◌+◌, ◌<◌, ◌≤◌, List,
 use Rattle.std.proofs.lemmas.List.{take_all, take-take, take_at, get_or-take, get_or_at}
 use Rattle.std.proofs.lemmas.Bool.{cases_order}
 use Rattle.reckoning.specs.Operations.{Operations}
-use Rattle.book.specs.Declines.{Handed, open_sentences}
+use Rattle.book.specs.declared.shown.Handed.{Handed}
+use Rattle.book.specs.Declines.{open_sentences}
 use Rattle.book.specs.Laid.{State}
 use Rattle.book.specs.Listed.{listed}
 use Rattle.book.specs.Plain.{Entry, Plain, opened, with_entries}

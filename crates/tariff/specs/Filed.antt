@@ -1,7 +1,8 @@
 -- What a read answers, and what book and places hold after it.
 use Rattle.std.specs.Prelude.{◌≡◌, ℕ, ◌+◌, ◌<◌, ◌⊎◌, List, ◌∷◌, ◌++◌, length, take, Some, None, Ok, Err, Option, Result, slice_index_or}
 use Rattle.reckoning.specs.Operations.{Operations}
-use Rattle.book.specs.Declines.{Handed, open_sentences, enter_sentences}
+use Rattle.book.specs.declared.shown.Handed.{Handed}
+use Rattle.book.specs.Declines.{open_sentences, enter_sentences}
 use Rattle.book.specs.Laid.{State, Holds, Outside}
 use Rattle.book.specs.Listed.{listed}
 use Rattle.book.specs.Plain.{Entry, Plain, scenarios, opened, with_entries}

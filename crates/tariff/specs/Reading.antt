@@ -1,7 +1,8 @@
 -- What the parts of the file reader answer.
 use Rattle.std.specs.Prelude.{◌≡◌, ℕ, ◌+◌, ◌-◌, ◌≤◌, List, [], ◌∷◌, ◌++◌, length, take, drop, Some, None, Ok, Err, Result}
 use Rattle.reckoning.specs.Operations.{Operations}
-use Rattle.book.specs.Declines.{Handed, open_sentences}
+use Rattle.book.specs.declared.shown.Handed.{Handed}
+use Rattle.book.specs.Declines.{open_sentences}
 use Rattle.book.specs.Laid.{State, Holds, Outside}
 use Rattle.book.specs.Listed.{listed}
 use Rattle.book.specs.Plain.{Entry, scenarios, opened, with_entry, with_entries}

@@ -1,8 +1,9 @@
 // Reading a tariff file: the form of the whole file, then open, then line by line.
 ghost use Rattle.std.specs.Prelude.{◌≡◌, ◌+◌, ◌<◌, ◌≤◌, false, [], length, IfOk, IfErr, MatchResult, OnOk};
-ghost use Rattle.book.specs.Declines.{handed, places_wrong};
-ghost use Rattle.book.specs.Laid.{places_of, state, Holds};
+ghost use Rattle.book.specs.Declines.{places_wrong};
+ghost use Rattle.book.specs.Laid.{state, Holds};
 ghost use Rattle.book.specs.Listed.{listed};
+ghost use Rattle.book.specs.Places.{held, handed_of, SamePlaces};
 ghost use Rattle.tariff.specs.Filed.{ReadsFile};
 ghost use Rattle.tariff.specs.Forms.{SharesRight, SharesWrong, FormWrong};
 ghost use Rattle.tariff.specs.Grammar.{LinesFrom};
@@ -12,10 +13,10 @@ ghost use Rattle.tariff.specs.Reading.{ReadsShare, ReadsDue, ReadsContractLine, 
 use crate::part::ContractPart;
 use crate::refusal::{BookFault, FileFault, LineFault};
 use book::book::Book;
+use book::places::Lent;
 use lines::fault::LineKind;
 use lines::line::read_line;
 use lines::trailer::{Trailer, read_trailer};
-use reckoning::grains::Grains;
 use reckoning::reckoning::Reckoning;
 
 // What an accepted read answers.
@@ -90,16 +91,15 @@ impl ContractPart<'_> {
         &self,
         place: usize,
         book: &mut Book,
-        levels: &mut [u32],
-        bounds: &mut [Grains],
-        values: &mut [R::Value],
+        places: &mut Lent<'_, R::Value>,
     ) -> Result<usize, FileFault>
         requires within { place < length self.now.bytes.now }
         requires lines { LinesFrom self.now.bytes.now place 67 (2 + self.now.scenarios) }
-        requires places { places_wrong (handed (length levels.old) (length bounds.old) (length values.old)) (listed book.old) ≡ false }
+        requires places { places_wrong (handed_of (held places.old)) (listed book.old) ≡ false }
         ensures walks { IfOk result (λ next. (place < next) × (next ≤ length self.now.bytes.now) × LinesFrom self.now.bytes.now next 67 (2 + self.now.scenarios)) }
-        ensures places { OnOk result (places_wrong (handed (length levels.new) (length bounds.new) (length values.new)) (listed book.new) ≡ false) }
-        ensures enters { Holds R.Reckoning.operations book.old (places_of levels.old bounds.old values.old) → EntersLine R.Reckoning.operations (handed (length levels.old) (length bounds.old) (length values.old)) self.now.bytes.now self.now.base (2 + self.now.scenarios) place (state book.old levels.old bounds.old values.old) (state book.new levels.new bounds.new values.new) result }
+        ensures lent { SamePlaces places.old places.new }
+        ensures places { OnOk result (places_wrong (handed_of (held places.new)) (listed book.new) ≡ false) }
+        ensures enters { Holds R.Reckoning.operations book.old (held places.old) → EntersLine R.Reckoning.operations (handed_of (held places.old)) self.now.bytes.now self.now.base (2 + self.now.scenarios) place (state book.old (held places.old)) (state book.new (held places.new)) result }
     {
         let begin = self.base + place;
         let count = 2 + self.scenarios;
@@ -107,7 +107,7 @@ impl ContractPart<'_> {
         let mut numbers = [0u32; 11];
         let line = &mut numbers[..count];
         let next = self.line(place, line)?;
-        book.enter::<R>(line[0], line[1], &line[2..], levels, bounds, values)
+        book.enter::<R>(line[0], line[1], &line[2..], places)
             .map_err(|refusal| BookFault {
                 place: begin,
                 refusal,
@@ -119,18 +119,17 @@ impl ContractPart<'_> {
     fn enter<R: Reckoning>(
         &self,
         book: &mut Book,
-        levels: &mut [u32],
-        bounds: &mut [Grains],
-        values: &mut [R::Value],
+        places: &mut Lent<'_, R::Value>,
     ) -> Result<FileRead, FileFault>
         requires lines { LinesFrom self.now.bytes.now 0 67 (2 + self.now.scenarios) }
-        requires places { places_wrong (handed (length levels.old) (length bounds.old) (length values.old)) (listed book.old) ≡ false }
-        ensures { (listed book.old).contracts ≡ [] → Holds R.Reckoning.operations book.old (places_of levels.old bounds.old values.old) → EntersPart R.Reckoning.operations (handed (length levels.old) (length bounds.old) (length values.old)) self.now.bytes.now self.now.base (2 + self.now.scenarios) (state book.old levels.old bounds.old values.old) (state book.new levels.new bounds.new values.new) result }
+        requires places { places_wrong (handed_of (held places.old)) (listed book.old) ≡ false }
+        ensures lent { SamePlaces places.old places.new }
+        ensures enters { (listed book.old).contracts ≡ [] → Holds R.Reckoning.operations book.old (held places.old) → EntersPart R.Reckoning.operations (handed_of (held places.old)) self.now.bytes.now self.now.base (2 + self.now.scenarios) (state book.old (held places.old)) (state book.new (held places.new)) result }
     {
         let mut place = 0;
         // A while, as where the lines are counted.
         while place < self.bytes.len() {
-            place = self.enter_line::<R>(place, book, levels, bounds, values)?;
+            place = self.enter_line::<R>(place, book, places)?;
         }
         Ok(FileRead)
     }
@@ -167,13 +166,12 @@ fn check_form(file: &[u8], shares: &mut [u32]) -> Result<Trailer, FileFault>
 pub fn read<R: Reckoning>(
     book: &mut Book,
     file: &[u8],
-    levels: &mut [u32],
-    bounds: &mut [Grains],
-    values: &mut [R::Value],
+    places: &mut Lent<'_, R::Value>,
 ) -> Result<FileRead, FileFault>
-    ensures reads { ReadsFile R.Reckoning.operations (handed (length levels.old) (length bounds.old) (length values.old)) file.now (state book.old levels.old bounds.old values.old) (state book.new levels.new bounds.new values.new) result }
+    ensures reads { ReadsFile R.Reckoning.operations (handed_of (held places.old)) file.now (state book.old (held places.old)) (state book.new (held places.new)) result }
+    ensures lent { SamePlaces places.old places.new }
     ensures comes { IfErr result (MayCome (length file.now)) }
-    ensures unchanged { IfErr result (λ e. (telling e).number ≤ 7 → state book.new levels.new bounds.new values.new ≡ state book.old levels.old bounds.old values.old) }
+    ensures unchanged { IfErr result (λ e. (telling e).number ≤ 7 → state book.new (held places.new) ≡ state book.old (held places.old)) }
 {
     // The most scenarios that a trailer can tell, since read is handed no memory for a Vec.
     let mut shares = [0u32; 9];
@@ -181,19 +179,13 @@ pub fn read<R: Reckoning>(
     let scenarios = trailer.scenarios;
     let place = trailer.place;
     let at = file.len() - 18;
-    book.open::<R>(
-        trailer.ceiling,
-        &shares[..scenarios],
-        levels,
-        bounds,
-        values,
-    )
-    .map_err(|refusal| BookFault { place: at, refusal })?;
+    book.open::<R>(trailer.ceiling, &shares[..scenarios], places)
+        .map_err(|refusal| BookFault { place: at, refusal })?;
     let bytes = &file[place..at];
     let part = ContractPart {
         bytes,
         base: place,
         scenarios,
     };
-    part.enter::<R>(book, levels, bounds, values)
+    part.enter::<R>(book, places)
 }

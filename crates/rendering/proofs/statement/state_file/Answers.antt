@@ -1,6 +1,7 @@
 use Rattle.std.proofs.Common.{ℕ, List, ◌++◌, replicate, length, vec_items, Ok, Err, true, false, refl, ap, ◌∙◌, arith}
 use Rattle.reckoning.specs.Counting.{counts}
-use Rattle.book.specs.Declines.{Handed, handed, places_wrong}
+use Rattle.book.specs.Places.{Handed, handed}
+use Rattle.book.specs.Declines.{places_wrong}
 use Rattle.book.specs.Laid.{state}
 use Rattle.book.specs.Listed.{listed}
 use Rattle.tariff.specs.Refusals.{telling}

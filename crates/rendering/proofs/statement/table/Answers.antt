@@ -1,5 +1,5 @@
 use Rattle.std.proofs.Common.{◌≡◌, ℕ, ◌<◌, length, replicate, get_or, take, vec_items, sym, ap, ◌∙◌, arith, length-take}
-use Rattle.book.specs.Declines.{handed}
+use Rattle.book.specs.Places.{handed}
 use Rattle.book.specs.Levels.{kept}
 use Rattle.book.specs.Listed.{listed}
 use Rattle.book.specs.Plain.{losses}

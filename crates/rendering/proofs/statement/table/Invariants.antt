@@ -1,7 +1,8 @@
 use Rattle.std.proofs.Common.{◌≡◌, false, length, take, vec_items}
 use Rattle.reckoning.specs.Counting.{counts}
-use Rattle.book.specs.Declines.{handed, places_wrong}
-use Rattle.book.specs.Laid.{places_of, Holds}
+use Rattle.book.specs.Places.{handed, places_of}
+use Rattle.book.specs.Declines.{places_wrong}
+use Rattle.book.specs.Laid.{Holds}
 use Rattle.book.specs.Levels.{kept}
 use Rattle.book.specs.Listed.{listed}
 use Rattle.book.specs.Plain.{losses}

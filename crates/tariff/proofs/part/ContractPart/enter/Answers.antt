@@ -1,49 +1,48 @@
-use Rattle.std.proofs.Common.{◌+◌, length, arith}
+use Rattle.std.proofs.Common.{◌+◌, arith, rules}
 use Rattle.std.proofs.lemmas.Result.{err_from_is_err_and}
-use Rattle.book.specs.Declines.{handed}
+use Rattle.book.specs.Places.{held, handed_of}
 use Rattle.book.specs.Laid.{state}
-use Rattle.book.proofs.Handing.{handed_same}
 use Rattle.tariff.proofs.Enterings.{so_far_none, so_far_more, part_entered, part_declined}
 use Rattle.tariff.proofs.part.ContractPart.enter.Goals as goal
 
 pub loop-place-init : goal.loop-place-init
 loop-place-init g c =
-    let h = handed (length c.args.levels.now) (length c.args.bounds.now) (length c.args.values.now) in
-    let x = state c.args.book.now c.args.levels.now c.args.bounds.now c.args.values.now in
+    let h = handed_of (held c.args.places.now) in
+    let x = state c.args.book.now (held c.args.places.now) in
     let lines = c.requires.lines in
-    (omega arith, lines, c.requires.places, λ empty holds. so_far_none g.R.Reckoning.operations h c.args.self.now.bytes.now (2 + c.args.self.now.scenarios) (omega arith) x lines empty holds)
+    (omega arith, lines, c.requires.places, λ empty holds. so_far_none g.R.Reckoning.operations h c.args.self.now.bytes.now (2 + c.args.self.now.scenarios) (omega arith) x lines empty holds, search rules)
 
 pub returns-in_err-place : goal.returns-in_err-place
 returns-in_err-place g c =
-    let l = length c.args.levels.now in
-    let b = length c.args.bounds.now in
-    let v = length c.args.values.now in
-    let x = state c.args.book.now c.args.levels.now c.args.bounds.now c.args.values.now in
-    let y = state c.loop-place.book c.loop-place.levels c.loop-place.bounds c.loop-place.values in
-    let z = state c.enter_line.new.book c.enter_line.new.levels c.enter_line.new.bounds c.enter_line.new.values in
-    let same = handed_same c.loop-place.auto.levels c.loop-place.auto.bounds c.loop-place.auto.values in
+    let h = handed_of (held c.args.places.now) in
+    let x = state c.args.book.now (held c.args.places.now) in
+    let y = state c.loop-place.book (held c.loop-place.places) in
+    let z = state c.enter_line.new.book (held c.enter_line.new.places) in
+    let same = c.loop-place.invariant.4.count in
     let p = err_from_is_err_and c.from_residual.result c.from_residual.ensures.1 in
     let declined = c.in_err-place.ensures in
-    λ empty holds.
-    let so = c.loop-place.invariant.3 empty holds in
-    rw (p.1, p.2) (part_declined g.R.Reckoning.operations (handed l b v) c.args.self.now.bytes.now (2 + c.args.self.now.scenarios) (omega arith) x c.args.self.now.base c.loop-place.place y z _ c.in_err-place.field-0.0 same so (declined.enters so.entered.holds))
+    record {
+      lent = search rules;
+      enters = λ empty holds.
+          let so = c.loop-place.invariant.3 empty holds in
+          rw (p.1, p.2) (part_declined g.R.Reckoning.operations h c.args.self.now.bytes.now (2 + c.args.self.now.scenarios) (omega arith) x c.args.self.now.base c.loop-place.place y z _ c.in_err-place.field-0.0 same so (declined.enters so.entered.holds));
+    }
 
 pub loop-place-preserved : goal.loop-place-preserved
 loop-place-preserved g c =
-    let l = length c.args.levels.now in
-    let b = length c.args.bounds.now in
-    let v = length c.args.values.now in
-    let x = state c.args.book.now c.args.levels.now c.args.bounds.now c.args.values.now in
-    let y = state c.loop-place.book c.loop-place.levels c.loop-place.bounds c.loop-place.values in
-    let z = state c.enter_line.new.book c.enter_line.new.levels c.enter_line.new.bounds c.enter_line.new.values in
-    let same = handed_same c.loop-place.auto.levels c.loop-place.auto.bounds c.loop-place.auto.values in
+    let h = handed_of (held c.args.places.now) in
+    let x = state c.args.book.now (held c.args.places.now) in
+    let y = state c.loop-place.book (held c.loop-place.places) in
+    let z = state c.enter_line.new.book (held c.enter_line.new.places) in
+    let same = c.loop-place.invariant.4.count in
     let entered = c.in_ok-place.ensures in (
       entered.walks.1,
       entered.walks.2,
       entered.places,
       λ empty holds.
           let so = c.loop-place.invariant.3 empty holds in
-          so_far_more g.R.Reckoning.operations (handed l b v) c.args.self.now.bytes.now (2 + c.args.self.now.scenarios) (omega arith) x c.args.self.now.base c.loop-place.place c.in_ok-place.place y z _ same so (entered.enters so.entered.holds),
+          so_far_more g.R.Reckoning.operations h c.args.self.now.bytes.now (2 + c.args.self.now.scenarios) (omega arith) x c.args.self.now.base c.loop-place.place c.in_ok-place.place y z _ same so (entered.enters so.entered.holds),
+      search rules,
     )
 
 pub loop-place-smaller : goal.loop-place-smaller
@@ -51,7 +50,7 @@ loop-place-smaller g c = let walks = c.in_ok-place.ensures.walks in omega (arith
 
 pub returns : goal.returns
 returns g c =
-    let h = handed (length c.args.levels.now) (length c.args.bounds.now) (length c.args.values.now) in
-    let x = state c.args.book.now c.args.levels.now c.args.bounds.now c.args.values.now in
-    let y = state c.loop-place.book c.loop-place.levels c.loop-place.bounds c.loop-place.values in
-    λ empty holds. part_entered g.R.Reckoning.operations h c.args.self.now.bytes.now (2 + c.args.self.now.scenarios) (omega arith) x c.loop-place.place y (omega arith) (c.loop-place.invariant.3 empty holds)
+    let h = handed_of (held c.args.places.now) in
+    let x = state c.args.book.now (held c.args.places.now) in
+    let y = state c.loop-place.book (held c.loop-place.places) in
+    record { lent = search rules; enters = λ empty holds. part_entered g.R.Reckoning.operations h c.args.self.now.bytes.now (2 + c.args.self.now.scenarios) (omega arith) x c.loop-place.place y (omega arith) (c.loop-place.invariant.3 empty holds) }

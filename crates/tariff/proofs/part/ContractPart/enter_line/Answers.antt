@@ -2,7 +2,7 @@ use Rattle.std.proofs.Common.{◌≡◌, ℕ, ◌+◌, length, get_or, drop, len
 use Rattle.std.proofs.lemmas.List.{take_rest}
 use Rattle.std.proofs.lemmas.Result.{err_from_is_err_and}
 use Rattle.book.specs.declared.refusal.Refusal.{Refusal}
-use Rattle.book.specs.Declines.{handed}
+use Rattle.book.specs.Places.{held, handed_of}
 use Rattle.book.specs.Laid.{state}
 use Rattle.tariff.specs.declared.refusal.BookFault.{BookFault}
 use Rattle.tariff.proofs.ContractLines.{entry_from, line_of_read, no_fault}
@@ -28,9 +28,9 @@ returns-in_err-map_err-clause-enters g c =
     let kept = c.line.auto.numbers in
     let size : length ns ≡ 2 + part.scenarios = omega (arith, kept, length-take {A = ℕ}) in
     let line = line_of_read (2 + part.scenarios) (omega arith) part.bytes.now c.args.place c.in_ok-next.next ns (omega arith) c.requires.lines size c.in_ok-next.ensures in
-    let h = handed (length c.args.levels.now) (length c.args.bounds.now) (length c.args.values.now) in
-    let x = state c.args.book.now c.args.levels.now c.args.bounds.now c.args.values.now in
-    let y = state c.enter.new.self c.enter.new.levels c.enter.new.bounds c.enter.new.values in
+    let h = handed_of (held c.args.places.now) in
+    let x = state c.args.book.now (held c.args.places.now) in
+    let y = state c.enter.new.self (held c.enter.new.places) in
     let told : Refusal → BookFault = λ refusal. record { place = place; refusal = refusal } in
     let m = mapped_err _ told (λ e f is. search rules) c.enter.result c.map_err.result _ c.map_err.ensures.cases c.in_err-map_err.was in
     let made = rw m.1 at c.enter.ensures in
@@ -56,9 +56,9 @@ returns-clause-enters g c =
     let kept = c.line.auto.numbers in
     let size : length ns ≡ 2 + part.scenarios = omega (arith, kept, length-take {A = ℕ}) in
     let line = line_of_read (2 + part.scenarios) (omega arith) part.bytes.now c.args.place c.in_ok-next.next ns (omega arith) c.requires.lines size c.in_ok-next.ensures in
-    let h = handed (length c.args.levels.now) (length c.args.bounds.now) (length c.args.values.now) in
-    let x = state c.args.book.now c.args.levels.now c.args.bounds.now c.args.values.now in
-    let y = state c.enter.new.self c.enter.new.levels c.enter.new.bounds c.enter.new.values in
+    let h = handed_of (held c.args.places.now) in
+    let x = state c.args.book.now (held c.args.places.now) in
+    let y = state c.enter.new.self (held c.enter.new.places) in
     let m = mapped_ok _ c.enter.result c.map_err.result _ c.map_err.ensures.cases c.in_ok-map_err.was in
     let made = rw m at c.enter.ensures in
     λ holds. (
