@@ -5,7 +5,7 @@ use Rattle.std.proofs.ByRecursion.{All-get_or}
 use Rattle.std.proofs.lemmas.List.{length-take-le, map_more, take-map}
 use Rattle.std.proofs.lemmas.Bool.{cases_Bool, cond-false, and_parts, and_from, or_from, not-true, not_from_true, le-leb, lt-leb, le-ltb, eq-eqb, ne_eqb, eqb-false, both_ways}
 use Rattle.reckoning.specs.Outcomes.{outside}
-use Rattle.book.specs.Places.{Handed}
+use Rattle.book.specs.declared.shown.Handed.{Handed}
 use Rattle.book.specs.Declines.{short, places_wrong, open_sentences, enter_sentences}
 use Rattle.book.specs.Lawful.{LawfulEntry, Lawful}
 use Rattle.book.specs.Levels.{comes_to, kept}

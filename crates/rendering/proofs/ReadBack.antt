@@ -2,7 +2,7 @@
 use Rattle.std.proofs.Common.{◌≡◌, ℕ, ◌<◌, List, ◌∷◌, ◌++◌, length, take, None, Ok, Err, Result, sym, refl, ap, ◌∙◌, subst, inl, inr, arith, length-append}
 use Rattle.std.proofs.lemmas.List.{take_at, get_or_at}
 use Rattle.reckoning.specs.Operations.{Operations}
-use Rattle.book.specs.Places.{Handed}
+use Rattle.book.specs.declared.shown.Handed.{Handed}
 use Rattle.book.specs.Declines.{open_sentences}
 use Rattle.book.specs.Laid.{State}
 use Rattle.book.specs.Lawful.{Lawful}

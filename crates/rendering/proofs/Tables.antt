@@ -6,7 +6,8 @@ use Rattle.reckoning.specs.declared.grains.Grains.{Grains}
 use Rattle.reckoning.specs.Counting.{counts}
 use Rattle.reckoning.specs.Outcomes.{outside}
 use Rattle.reckoning.specs.Rounding.{pair}
-use Rattle.book.specs.Places.{Handed, handed}
+use Rattle.book.specs.declared.shown.Handed.{Handed}
+use Rattle.book.specs.Places.{handed}
 use Rattle.book.specs.Declines.{places_wrong, chance_sentences}
 use Rattle.book.specs.Figures.{chance}
 use Rattle.book.specs.Laid.{State, LevelsHold}
@@ -15,7 +16,6 @@ use Rattle.book.specs.Listed.{listed}
 use Rattle.book.specs.Plain.{Plain, scenarios, losses, unopened}
 use Rattle.book.specs.Refusals.{Sentences, first}
 use Rattle.book.proofs.Reaches.{kept_under_ceiling}
-use Rattle.book.proofs.Handing.{handed_same}
 use Rattle.tariff.specs.declared.reading.FileRead.{FileRead}
 use Rattle.tariff.specs.declared.refusal.FileFault.{FileFault}
 use Rattle.tariff.specs.Filed.{ReadsFile}
@@ -80,15 +80,15 @@ chance_told h p level fit low =
     late = (14, outside 0 (scenarios p) 0) ∷ last
 
 -- what is stated of a read over as many places as a statement brings
-pub stated : (file : List ℕ) (x y : State (Option ℕ)) (l b v : ℕ) (r : Result FileRead FileFault) (accepted : Bool) (text : List ℕ) →
-    (l ≡ 256) × ((b ≡ 2048) × (v ≡ 2048)) → listed x.book ≡ unopened → ReadsFile counts (handed l b v) file x y r → Says (listed y.book) r accepted text →
+pub stated : (file : List ℕ) (x y : State (Option ℕ)) (h : Handed) (r : Result FileRead FileFault) (accepted : Bool) (text : List ℕ) →
+    h ≡ handed 256 2048 2048 → listed x.book ≡ unopened → ReadsFile counts h file x y r → Says (listed y.book) r accepted text →
     Stated file accepted text
-stated file x y l b v r accepted text (is-l, (is_b, is-v)) empty reads says =
+stated file x y h r accepted text places empty reads says =
     record {
       before = x;
       after = y;
       answer = r;
       empty = empty;
-      reads = subst (λ (h : Handed). ReadsFile counts h file x y r) (handed_same is-l is_b is-v) reads;
+      reads = subst (λ (h : Handed). ReadsFile counts h file x y r) places reads;
       says = says;
     }

@@ -2,7 +2,7 @@
 use Rattle.std.specs.Prelude.{◌≡◌, ℕ, ◌*◌, ◌≤◌, true, List, length, take, drop, is_ok, Ok, Result}
 use Rattle.reckoning.specs.Operations.{Operations}
 use Rattle.book.specs.declared.book.Book.{Book}
-use Rattle.book.specs.Places.{Handed}
+use Rattle.book.specs.declared.shown.Handed.{Handed}
 use Rattle.book.specs.Laid.{State}
 use Rattle.book.specs.Levels.{kept}
 use Rattle.book.specs.Listed.{listed}

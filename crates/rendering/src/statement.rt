@@ -58,11 +58,7 @@ fn append(text: &mut Vec<u8>, bytes: &[u8], told: Result<usize, TooFew>) -> Resu
 }
 
 // The line of each kept level, with the bounds of the mix.
-fn table(
-    heap: Global,
-    book: &Book,
-    places: &Shown<'_, Option<u16>>,
-) -> Result<Vec<u8>, AllocError>
+fn table(heap: Global, book: &Book, places: &Shown<'_, Option<u16>>) -> Result<Vec<u8>, AllocError>
     ensures rows { IfOk result (λ text. Table text.items) }
     ensures kept { places_wrong (handed_of (shown places.now)) (listed book.now) ≡ false → Holds counts book.now (shown places.now) → IfOk result (λ text. text.items ≡ table_of (listed book.now)) }
 {

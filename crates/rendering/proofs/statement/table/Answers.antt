@@ -1,5 +1,5 @@
 use Rattle.std.proofs.Common.{◌≡◌, ℕ, ◌<◌, length, replicate, get_or, take, vec_items, sym, ap, ◌∙◌, arith, length-take}
-use Rattle.book.specs.Places.{handed}
+use Rattle.book.specs.Places.{handed_of, shown}
 use Rattle.book.specs.Levels.{kept}
 use Rattle.book.specs.Listed.{listed}
 use Rattle.book.specs.Plain.{losses}
@@ -13,8 +13,8 @@ pub loop-level-preserved : goal.loop-level-preserved
 loop-level-preserved c =
     let b = c.args.book.now in
     let p = listed b in
-    let levels = c.args.levels.now in
-    let h = handed (length levels) (length c.args.bounds.now) (length c.args.values.now) in
+    let levels = c.args.places.now.levels.now in
+    let h = handed_of (shown c.args.places.now) in
     let i = c.loop-level.level-index in
     let ks = kept p.ceiling (losses p) in
     let before = vec_items c.loop-level.text in

@@ -1,6 +1,6 @@
-use Rattle.std.proofs.Common.{◌≡◌, false, length, take, vec_items}
+use Rattle.std.proofs.Common.{◌≡◌, false, take, vec_items}
 use Rattle.reckoning.specs.Counting.{counts}
-use Rattle.book.specs.Places.{handed, places_of}
+use Rattle.book.specs.Places.{handed_of, shown}
 use Rattle.book.specs.Declines.{places_wrong}
 use Rattle.book.specs.Laid.{Holds}
 use Rattle.book.specs.Levels.{kept}
@@ -14,6 +14,6 @@ abbrev pub invariant-loop-level : goal.invariant-loop-level
 invariant-loop-level l = record {
   rows : Table (vec_items l.text);
   kept :
-      places_wrong (handed (length l.levels) (length l.bounds) (length l.values)) (listed l.book) ≡ false → Holds counts l.book (places_of l.levels l.bounds l.values) →
+      places_wrong (handed_of (shown l.places)) (listed l.book) ≡ false → Holds counts l.book (shown l.places) →
       vec_items l.text ≡ levels_text (listed l.book) (take l.level-index (kept (listed l.book).ceiling (losses (listed l.book))));
 }
