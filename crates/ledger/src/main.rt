@@ -5,6 +5,7 @@ mod saying;
 mod script;
 
 use book::book::Book;
+use book::places::Lent;
 use book::refusal::Refusal;
 use law::call::{Answer, Call};
 use law::running::run;
@@ -52,9 +53,7 @@ fn answers(heap: Global, script: &Script) -> Result<Vec<u8>, AllocError> {
         script.ceiling,
         &script.shares[..],
         &calls[..],
-        &mut levels[..],
-        &mut bounds[..],
-        &mut values[..],
+        &mut Lent::new(&mut levels[..], &mut bounds[..], &mut values[..]),
         &mut told[..],
     );
     saying::lines(heap, opened, &told[..])

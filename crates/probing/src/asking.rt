@@ -1,6 +1,6 @@
 // The answer to a line.
 use crate::bytes::{bytes_of, word_of};
-use crate::lending::{Handed, Lent, Probe};
+use crate::lending::{Probe, handed_by};
 use crate::words::{number_at, word_at, word_count};
 use crate::wrong::{Halt, Wrong};
 use law::call::Answer;
@@ -54,19 +54,13 @@ fn count_line(heap: Global, line: &str) -> Result<String, Halt> {
 impl Probe {
     // Answers a line `open L NB NC ceiling share..`.
     fn open_line(&mut self, heap: Global, line: &str) -> Result<String, Halt> {
-        let handed = Handed::by(line)?;
+        let handed = handed_by(line)?;
         let numbers = read_numbers(heap, line, 4)?;
         let [ceiling, shares @ ..] = &numbers[..] else {
             return Err(Halt::NoCall(Wrong::Count));
         };
-        let Lent {
-            levels,
-            bounds,
-            claims,
-        } = self.places.lend(handed)?;
-        let told = self
-            .book
-            .open::<Claims>(*ceiling, shares, levels, bounds, claims);
+        let mut places = self.places.lend(handed)?;
+        let told = self.book.open::<Claims>(*ceiling, shares, &mut places);
         Ok(format!(in heap; "{}", Said(told.map(|_| Answer::Done)))?)
     }
 
@@ -75,30 +69,22 @@ impl Probe {
         let Some(verb) = verb_of(word_at(line, 0), word_at(line, 4)) else {
             return Err(Halt::NoCall(Wrong::Verb));
         };
-        let handed = Handed::by(line)?;
+        let handed = handed_by(line)?;
         let numbers = read_numbers(heap, line, verb.words() + 3)?;
         let Some(call) = call_of(verb, &numbers[..]) else {
             return Err(Halt::NoCall(Wrong::Count));
         };
-        let Lent {
-            levels,
-            bounds,
-            claims,
-        } = self.places.lend(handed)?;
-        let told = step::<Claims>(&mut self.book, call, levels, bounds, claims);
+        let mut places = self.places.lend(handed)?;
+        let told = step::<Claims>(&mut self.book, call, &mut places);
         Ok(format!(in heap; "{}", Said(told))?)
     }
 
     // Answers a line `read L NB NC HEX`.
     fn read_line(&mut self, heap: Global, line: &str) -> Result<String, Halt> {
-        let handed = Handed::by(line)?;
+        let handed = handed_by(line)?;
         let file = bytes_of(heap, word_at(line, 4))?;
-        let Lent {
-            levels,
-            bounds,
-            claims,
-        } = self.places.lend(handed)?;
-        match read::<Claims>(&mut self.book, &file[..], levels, bounds, claims) {
+        let mut places = self.places.lend(handed)?;
+        match read::<Claims>(&mut self.book, &file[..], &mut places) {
             Ok(_) => Ok(format!(in heap; "ok")?),
             Err(fault) => Ok(format!(in heap; "{fault}")?),
         }

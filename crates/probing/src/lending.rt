@@ -2,6 +2,8 @@
 use crate::words::number_at;
 use crate::wrong::Wrong;
 use book::book::Book;
+use book::places::Lent;
+use book::shown::Handed;
 use reckoning::grains::Grains;
 use std::alloc::{AllocError, Global};
 
@@ -26,33 +28,16 @@ pub(crate) struct Places {
     pub(crate) claims: Vec<Option<u16>>,
 }
 
-// The places that one call is handed.
-#[derive(Drop)]
-pub(crate) struct Lent<'a> {
-    pub(crate) levels: &'a mut [u32],
-    pub(crate) bounds: &'a mut [Grains],
-    pub(crate) claims: &'a mut [Option<u16>],
-}
-
 // How many places a line hands over, by the three words after the first.
-#[derive(Clone, Copy)]
-pub(crate) struct Handed {
-    levels: usize,
-    bounds: usize,
-    claims: usize,
-}
-
-impl Handed {
-    pub(crate) fn by(line: &str) -> Result<Handed, Wrong> {
-        let levels = number_at(line, 1)?;
-        let bounds = number_at(line, 2)?;
-        let claims = number_at(line, 3)?;
-        Ok(Handed {
-            levels,
-            bounds,
-            claims,
-        })
-    }
+pub(crate) fn handed_by(line: &str) -> Result<Handed, Wrong> {
+    let levels = number_at(line, 1)?;
+    let bounds = number_at(line, 2)?;
+    let values = number_at(line, 3)?;
+    Ok(Handed {
+        levels,
+        bounds,
+        values,
+    })
 }
 
 // The first places, if there are so many.
@@ -62,12 +47,11 @@ fn front<T>(places: &mut [T], count: usize) -> Result<&mut [T], Wrong> {
 
 impl Places {
     // The first places of each kind.
-    pub(crate) fn lend(&mut self, handed: Handed) -> Result<Lent<'_>, Wrong> {
-        Ok(Lent {
-            levels: front(&mut self.levels[..], handed.levels)?,
-            bounds: front(&mut self.bounds[..], handed.bounds)?,
-            claims: front(&mut self.claims[..], handed.claims)?,
-        })
+    pub(crate) fn lend(&mut self, handed: Handed) -> Result<Lent<'_, Option<u16>>, Wrong> {
+        let levels = front(&mut self.levels[..], handed.levels)?;
+        let bounds = front(&mut self.bounds[..], handed.bounds)?;
+        let claims = front(&mut self.claims[..], handed.values)?;
+        Ok(Lent::new(levels, bounds, claims))
     }
 }
 

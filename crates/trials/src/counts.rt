@@ -1,6 +1,8 @@
 // Counts of outcomes, and the chances of the same contracts in a book.
 use book::book::Book;
+use book::places::Lent;
 use book::refusal::Refusal;
+use book::shown::Shown;
 use reckoning::claims::Claims;
 use reckoning::grains::Grains;
 use std::test::Fail;
@@ -75,11 +77,12 @@ fn four_components_have_their_chances(rt: HostRuntime) -> Result<(), Fail> {
     let mut levels = [0u32; 9];
     let mut bounds = [exact(0); 9];
     let mut values = [None; 9];
-    book.open::<Claims>(8, &[1_000_000], &mut levels, &mut bounds, &mut values)?;
-    book.enter::<Claims>(1, 4, &[100_000], &mut levels, &mut bounds, &mut values)?;
-    book.enter::<Claims>(2, 1, &[400_000], &mut levels, &mut bounds, &mut values)?;
-    book.enter::<Claims>(3, 1, &[200_000], &mut levels, &mut bounds, &mut values)?;
-    book.enter::<Claims>(4, 2, &[300_000], &mut levels, &mut bounds, &mut values)?;
+    let mut places = Lent::new(&mut levels, &mut bounds, &mut values);
+    book.open::<Claims>(8, &[1_000_000], &mut places)?;
+    book.enter::<Claims>(1, 4, &[100_000], &mut places)?;
+    book.enter::<Claims>(2, 1, &[400_000], &mut places)?;
+    book.enter::<Claims>(3, 1, &[200_000], &mut places)?;
+    book.enter::<Claims>(4, 2, &[300_000], &mut places)?;
     assert_eq!(rt; levels, [0, 1, 2, 3, 4, 5, 6, 7, 8]);
     assert_eq!(rt;
         bounds,
@@ -104,13 +107,14 @@ fn a_layer_ends_at_most_one_above_the_ceiling(rt: HostRuntime) -> Result<(), Fai
     let mut levels = [0u32; 2];
     let mut bounds = [exact(0); 2];
     let mut values = [None; 2];
-    book.open::<Claims>(6, &[1_000_000], &mut levels, &mut bounds, &mut values)?;
-    book.enter::<Claims>(1, 5, &[200_000], &mut levels, &mut bounds, &mut values)?;
+    let mut places = Lent::new(&mut levels, &mut bounds, &mut values);
+    book.open::<Claims>(6, &[1_000_000], &mut places)?;
+    book.enter::<Claims>(1, 5, &[200_000], &mut places)?;
     assert_eq!(rt;
-        book.layer::<Claims>(0, 7, &levels, &bounds, &values)?,
+        book.layer::<Claims>(0, 7, &Shown::new(&levels, &bounds, &values))?,
         (1_000_000_000_000, 1_000_000_000_000)
     );
-    let longer = book.layer::<Claims>(0, 8, &levels, &bounds, &values);
+    let longer = book.layer::<Claims>(0, 8, &Shown::new(&levels, &bounds, &values));
     assert!(rt; matches!(longer, Err(Refusal::Range)));
     assert_eq!(rt; Refusal::Range.number(), 17);
     Ok(())
