@@ -134,12 +134,9 @@ fn each_scenario_has_its_row(rt: HostRuntime) -> Result<(), Fail> {
     let mut bounds = [exact(7); 8];
     let mut values = [Some(7u16); 7];
     let shares = [250_000u32, 750_000];
-    book.open::<Claims>(
-        6,
-        &shares,
-        &mut Lent::new(&mut levels, &mut bounds, &mut values),
-    )?;
     let rates = [200_000u32, 400_000];
+    let mut places = Lent::new(&mut levels, &mut bounds, &mut values);
+    book.open::<Claims>(6, &shares, &mut places)?;
     let mut places = Lent::new(&mut levels, &mut bounds, &mut values);
     book.enter::<Claims>(1, 1, &rates, &mut places)?;
     assert_eq!(rt; levels, [0, 1, 9]);

@@ -81,10 +81,8 @@ fn reserve_is_the_least_level_that_reaches(rt: HostRuntime) -> Result<(), Fail> 
     let mut levels = [9u32; 6];
     let mut bounds = [exact(7); 6];
     let mut values = [Some(7u16); 6];
-    let book = worked(
-        rt.alloc(),
-        &mut Lent::new(&mut levels, &mut bounds, &mut values),
-    )?;
+    let mut places = Lent::new(&mut levels, &mut bounds, &mut values);
+    let book = worked(rt.alloc(), &mut places)?;
     assert_eq!(rt;
         book.reserve::<Claims>(850_000, &Shown::new(&levels, &bounds, &values))?,
         (Some(3), Some(3))

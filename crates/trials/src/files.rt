@@ -63,11 +63,8 @@ fn a_declined_line_leaves_those_before_it(rt: HostRuntime) -> Result<(), Fail> {
     let mut bounds = [Grains { lower: 7, upper: 7 }; 5];
     let mut values = [None; 5];
     let file = b"S 1000000\nC 11 3 200000\nC 12 2 500000\nC 11 2 100000\nT 00006 1 003 010\n";
-    let Err(fault) = read::<Claims>(
-        &mut book,
-        file,
-        &mut Lent::new(&mut levels, &mut bounds, &mut values),
-    ) else {
+    let mut places = Lent::new(&mut levels, &mut bounds, &mut values);
+    let Err(fault) = read::<Claims>(&mut book, file, &mut places) else {
         return Err(Fail::new("the key is there twice"));
     };
     assert_eq!(rt; fault.number(), 11);
@@ -85,11 +82,8 @@ fn the_worked_book_is_written_back(rt: HostRuntime) -> Result<(), Fail> {
     let mut bounds = [Grains { lower: 0, upper: 0 }; 8];
     let mut values = [None; 8];
     let file = b"S 1000000\nC 11 3 200000\nC 12 2 500000\nC 13 2 100000\nT 00006 1 003 010\n";
-    let Ok(_) = read::<Claims>(
-        &mut book,
-        file,
-        &mut Lent::new(&mut levels, &mut bounds, &mut values),
-    ) else {
+    let mut places = Lent::new(&mut levels, &mut bounds, &mut values);
+    let Ok(_) = read::<Claims>(&mut book, file, &mut places) else {
         return Err(Fail::new("the file is refused"));
     };
     let mut out = [b'.'; 75];
@@ -108,11 +102,8 @@ fn two_scenarios_are_written_in_order(rt: HostRuntime) -> Result<(), Fail> {
     let mut bounds = [Grains { lower: 0, upper: 0 }; 8];
     let mut values = [None; 8];
     let file = b"S 999999\nS 1\nC 4294967295 65535 0 1000000\nC 0 1 7 70\nT 65535 2 002 013\n";
-    let Ok(_) = read::<Claims>(
-        &mut book,
-        file,
-        &mut Lent::new(&mut levels, &mut bounds, &mut values),
-    ) else {
+    let mut places = Lent::new(&mut levels, &mut bounds, &mut values);
+    let Ok(_) = read::<Claims>(&mut book, file, &mut places) else {
         return Err(Fail::new("the file is refused"));
     };
     let mut out = [b'.'; 71];
@@ -128,24 +119,16 @@ fn a_written_book_is_read_back_over_fewer_places(rt: HostRuntime) -> Result<(), 
     let mut bounds = [Grains { lower: 0, upper: 0 }; 8];
     let mut values = [None; 8];
     let file = b"S 1000000\nC 11 3 200000\nC 12 2 500000\nC 13 2 100000\nT 00006 1 003 010\n";
-    let Ok(_) = read::<Claims>(
-        &mut book,
-        file,
-        &mut Lent::new(&mut levels, &mut bounds, &mut values),
-    ) else {
+    let mut places = Lent::new(&mut levels, &mut bounds, &mut values);
+    let Ok(_) = read::<Claims>(&mut book, file, &mut places) else {
         return Err(Fail::new("the file is refused"));
     };
     let mut out = [0u8; 70];
     assert_eq!(rt; write(&book, &mut out), Ok(70));
     let mut again = Book::new(rt.alloc())?;
     let mut fewer = [9u32; 5];
-    let Ok(_) = read::<Claims>(
-        &mut again,
-        &out[..],
-        &mut fewer,
-        &mut bounds[0..5],
-        &mut values[0..5],
-    ) else {
+    let mut places = Lent::new(&mut fewer, &mut bounds[0..5], &mut values[0..5]);
+    let Ok(_) = read::<Claims>(&mut again, &out[..], &mut places) else {
         return Err(Fail::new("five places are enough"));
     };
     assert_eq!(rt; fewer, [0, 2, 3, 4, 5]);
