@@ -1,9 +1,6 @@
-use Rattle.std.proofs.Common.{length, refl, arith}
+use Rattle.std.proofs.Common.{arith}
 use Rattle.book.proofs.Halvings.{turn_up, turn_down, turns_end}
 use Rattle.book.proofs.merging.below.Goals as goal
-
-pub loop-low-init : goal.loop-low-init
-loop-low-init c = (omega arith, omega arith, (length c.args.levels.now, omega arith, refl))
 
 -- the level in the middle lies below x
 pub loop-low-preserved-then-levels-mid : goal.loop-low-preserved-then-levels-mid
