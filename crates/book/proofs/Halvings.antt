@@ -39,9 +39,6 @@ module _ (levels : List ℕ) (x : ℕ) where
     turn_down r (zero, enough, is) some more = absurd (omega arith)
     turn_down r (suc turns, enough, is) some more = (turns, omega arith, is ∙ halved_down turns some more)
 
-    pub turns_end : (r : ℕ) → Turns low high r → high ≤ low → low ≡ r
-    turns_end r t past = sym (t.2 ∙ halved_end t.0 past)
-
   -- no level from n on is read
   halved_kept : (n turns low high : ℕ) → high ≤ n → halved turns (take n levels) x low high ≡ halved turns levels x low high
   halved_kept n zero low high le = refl

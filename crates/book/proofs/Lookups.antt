@@ -1,7 +1,6 @@
 -- What a row tells, place by place.
-use Rattle.std.proofs.Common.{◌≡◌, ℕ, ◌+◌, ◌-◌, ◌*◌, ◌<◌, ◌≤◌, eqb, List, [], ◌∷◌, length, get_or, drop, sym, ap, ◌∙◌, arith}
-use Rattle.std.proofs.lemmas.List.{get_or-take, get_or-drop, get_or_default}
-use Rattle.std.proofs.lemmas.Bool.{cond-true, cond-false, cond_both, eq-eqb, ne_eqb}
+use Rattle.std.proofs.Common.{◌≡◌, ℕ, ◌+◌, ◌-◌, ◌≤◌, eqb, List, [], ◌∷◌, get_or, sym, ap, ◌∙◌, arith}
+use Rattle.std.proofs.lemmas.Bool.{cond-true, cond_both, eq-eqb}
 use Rattle.reckoning.specs.declared.grains.Grains.{Grains}
 use Rattle.reckoning.specs.Enclosing.{Ranged, checked}
 use Rattle.reckoning.specs.Outcomes.{summed}
@@ -12,17 +11,6 @@ use Rattle.reckoning.specs.Enclosures.{checked_ranged, checked_same}
 use Rattle.book.specs.Merging.{row_of}
 use Rattle.book.specs.Figures.{numbered, mixed, told_at, told_in}
 use Rattle.book.proofs.Mixtures.{shares_numbered}
-
-pub row_at : {V : Type 0} (p s : ℕ) (rows : List V) (i : ℕ) (d : V) → i < p → get_or (row_of p s rows) i d ≡ get_or rows (s * p + i) d
-row_at p s rows i d l = get_or-take p (drop (s * p) rows) i d l ∙ get_or-drop (s * p) rows i d
-
--- where some level was found, the value beside the last of them
-pub told_some : {V : Type 0} (reading : V → V) (nothing : V) (p s : ℕ) (rows : List V) (n : ℕ) (v : V) → (n ≡ 0 → ⊥) → n ≤ p → s * p + p ≤ length rows →
-    v ≡ get_or rows (s * p + (n - 1)) v → reading v ≡ told_at reading nothing (row_of p s rows) n
-told_some {V} reading nothing p s rows n v some within room is =
-    let at : get_or (row_of p s rows) (n - 1) nothing ≡ v =
-    row_at p s rows (n - 1) nothing (omega arith) ∙ get_or_default rows (s * p + (n - 1)) nothing v (omega arith) ∙ sym is in
-    ap reading (sym at) ∙ sym (cond-false (eqb n 0) nothing (reading (get_or (row_of p s rows) (n - 1) nothing)) (ne_eqb n 0 some))
 
 pub told_none : {V : Type 0} (reading : V → V) (nothing : V) (row : List V) (n : ℕ) → n ≡ 0 → nothing ≡ told_at reading nothing row n
 told_none reading nothing row n none = sym (cond-true (eqb n 0) nothing (reading (get_or row (n - 1) nothing)) (eq-eqb n 0 none))

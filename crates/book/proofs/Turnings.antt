@@ -56,10 +56,6 @@ levels_end xs own moved w zero h = refl
 levels_end xs own moved w (suc t) (inl e) = absurd (omega arith)
 levels_end xs own moved w (suc t) (inr e) = cond-true (eqb own 0) xs _ (none_left own e)
 
-pub turns_end : (xs : List ℕ) (own moved w f : ℕ) → own ≡ 0 → turns f xs own moved w ≡ 0
-turns_end xs own moved w zero e = refl
-turns_end xs own moved w (suc f) e = cond-true (eqb own 0) 0 _ (none_left own e)
-
 pub row_end : {V : Type 0} (ops : Operations V) (xs : List ℕ) (w r : ℕ) (row : List V) (own moved t : ℕ) → (t ≡ 0) ⊎ (own ≡ 0) → row_turned ops xs w r t row own moved ≡ row
 row_end ops xs w r row own moved zero h = refl
 row_end ops xs w r row own moved (suc t) (inl e) = absurd (omega arith)

@@ -1,9 +1,6 @@
-use Rattle.std.proofs.Common.{length, refl, arith}
-use Rattle.book.proofs.Halvings.{turn_up, turn_down, turns_end}
+use Rattle.std.proofs.Common.{arith}
+use Rattle.book.proofs.Halvings.{turn_up, turn_down}
 use Rattle.book.proofs.merging.below.Goals as goal
-
-pub loop-low-init : goal.loop-low-init
-loop-low-init c = (omega arith, omega arith, (length c.args.levels.now, omega arith, refl))
 
 -- the level in the middle lies below x
 pub loop-low-preserved-then-levels-mid : goal.loop-low-preserved-then-levels-mid
@@ -13,9 +10,3 @@ loop-low-preserved-then-levels-mid c =
 pub loop-low-preserved : goal.loop-low-preserved
 loop-low-preserved c =
     (omega arith, omega arith, turn_down c.args.levels.now c.args.x c.loop-low.low c.loop-low.high _ c.loop-low.invariant.2 (omega arith) (omega arith))
-
-pub returns : goal.returns
-returns c = record {
-  within = omega arith;
-  value = turns_end c.args.levels.now c.args.x c.loop-low.low c.loop-low.high _ c.loop-low.invariant.2 (omega arith);
-}

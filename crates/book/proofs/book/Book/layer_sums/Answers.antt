@@ -24,22 +24,6 @@ loop-i-init c =
       come_none (λ g. g.lower) c.args.self.now c.args.levels.now c.args.bounds.now c.args.from c.args.to,
     )
 
-pub overflow_add-low : goal.overflow_add-low
-overflow_add-low c =
-    let end = c.end_of_stretch-end.ensures in
-    let wide = c.from-wide.ensures in
-    let top = c.args.self.now.low_ceiling in
-    let v = 1000000000000 - c.chance_at-told.result.upper in
-    omega (arith, ap (λ (n : ℕ). n * v) wide, stretch_within 1000000000000 c.args.from c.loop-i.at c.end_of_stretch-end.result c.loop-i.low v (omega arith) (omega arith) (omega arith) (omega arith))
-
-pub overflow_add-high : goal.overflow_add-high
-overflow_add-high c =
-    let end = c.end_of_stretch-end.ensures in
-    let wide = c.from-wide.ensures in
-    let top = c.args.self.now.low_ceiling in
-    let v = 1000000000000 - c.chance_at-told.result.lower in
-    omega (arith, ap (λ (n : ℕ). n * v) wide, stretch_within 1000000000000 c.args.from c.loop-i.at c.end_of_stretch-end.result c.loop-i.high v (omega arith) (omega arith) (omega arith) (omega arith))
-
 pub loop-i-preserved : goal.loop-i-preserved
 loop-i-preserved c =
     let b = c.args.self.now in

@@ -1,5 +1,4 @@
-use Rattle.std.proofs.Common.{◌≡◌, ℕ, ◌+◌, ◌-◌, ◌*◌, [], ◌∷◌, length, refl, ap, ◌∙◌, arith, rules}
-use Rattle.std.proofs.lemmas.List.{length-take}
+use Rattle.std.proofs.Common.{◌≡◌, ℕ, ◌+◌, ◌-◌, [], ◌∷◌, ap, ◌∙◌, arith, rules}
 use Rattle.book.specs.Figures.{told_at}
 use Rattle.book.specs.Listed.{listed}
 use Rattle.book.specs.Merging.{reached, only_zero, row_of}
@@ -8,14 +7,7 @@ use Rattle.book.specs.Values.{value}
 use Rattle.book.specs.Told.{found_below}
 use Rattle.book.proofs.Halvings.{found_kept, found_picked}
 use Rattle.book.proofs.Readings.{value_ranged, levels_picked, told_held}
-use Rattle.book.proofs.Strides.{ends_within}
 use Rattle.book.proofs.book.Book.row_value.Goals as goal
-
-pub told-requires : goal.told-requires
-told-requires g c =
-    let b = c.args.self.now in
-    let p = b.places in
-    (omega (arith, length-take b.kept c.args.levels.now), ends_within (c.args.scenario - 1) b.shares.count p ((c.args.scenario - 1) * p) (length c.args.rows.now) refl (omega arith) (omega arith))
 
 pub returns : goal.returns
 returns g c =
