@@ -13,7 +13,7 @@ use book::refusal::Refusal;
 use reckoning::grains::Grains;
 use reckoning::reckoning::Reckoning;
 
-// Carries out one call on the book.
+// Carries out one call on the book. It takes the places as the book's own calls do, each kind lent by itself.
 pub fn step<R: Reckoning>(
     book: &mut Book,
     call: Call,
@@ -73,6 +73,7 @@ fn carry_out<R: Reckoning>(
     ensures carried { Sound (handed (length levels.old) (length bounds.old) (length values.old)) (listed book.old) → Holds R.Reckoning.operations book.old (places_of levels.old bounds.old values.old) → CarriedOut R.Reckoning.operations R.Reckoning.stands (handed (length levels.old) (length bounds.old) (length values.old)) (listed book.old) (take result calls.now) (state book.old levels.old bounds.old values.old) (state book.new levels.new bounds.new values.new) answers.old answers.new }
 {
     let n = calls.len().min(answers.len());
+    // Answers are written by index: of what a zip lends out by iter_mut no element is known after it.
     for (i, call) in calls[..n].iter().enumerate() {
         answers[i] = step::<R>(book, *call, levels, bounds, values);
     }

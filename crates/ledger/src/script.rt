@@ -11,7 +11,7 @@ use std::alloc::{AllocError, AllocFailed, Global};
 // A line that is wrong.
 pub(crate) type Wrong = Fault<&'static str>;
 
-// Why there is no script: a line is wrong, or there is no memory.
+// Why there is no script: a line is wrong, or there is no memory. Each crate has such an enum of its own, since only there can ? be told how to make it.
 #[derive(Drop)]
 pub(crate) enum Halt {
     NoScript(Wrong),
@@ -57,11 +57,18 @@ struct Asked {
     numbers: Vec<u32>,
 }
 
-#[derive(Drop)]
-pub(crate) struct Script {
+// How many places of each kind there are.
+#[derive(Clone, Copy)]
+pub(crate) struct Places {
     pub(crate) levels: usize,
     pub(crate) bounds: usize,
     pub(crate) claims: usize,
+}
+
+// A script whose lines are all right.
+#[derive(Drop)]
+pub(crate) struct Script {
+    pub(crate) places: Places,
     pub(crate) ceiling: u32,
     pub(crate) shares: Vec<u32>,
     asked: Vec<Asked>,
@@ -130,13 +137,17 @@ fn read_asked(heap: Global, before: usize, line: &str) -> Result<Asked, Halt> {
     }
 }
 
-// How many places of each kind there are, by the first line.
-fn read_places(heap: Global, line: &str) -> Result<(usize, usize, usize), Halt> {
+// The places that the first line asks for.
+fn read_places(heap: Global, line: &str) -> Result<Places, Halt> {
     let Line { kind, numbers } = read_line(heap, 0, line)?;
     match (kind, &numbers[..]) {
         (Kind::Places, [levels, bounds, claims])
             if *levels <= 65_536 && *bounds <= 524_288 && *claims <= 524_288 => {
-            Ok((*levels as usize, *bounds as usize, *claims as usize))
+            Ok(Places {
+                levels: *levels as usize,
+                bounds: *bounds as usize,
+                claims: *claims as usize,
+            })
         }
         (Kind::Places, _) => {
             let what = "places takes three numbers, at most 65536, 524288 and 524288";
@@ -162,7 +173,7 @@ pub(crate) fn read_script(heap: Global, text: &str) -> Result<Script, Halt> {
     let Some((_, first)) = lines.next() else {
         return Err(wrong_at(0, "a script begins with places and open"));
     };
-    let (levels, bounds, claims) = read_places(heap, first)?;
+    let places = read_places(heap, first)?;
     let Some((_, second)) = lines.next() else {
         return Err(wrong_at(1, "a script begins with places and open"));
     };
@@ -172,9 +183,7 @@ pub(crate) fn read_script(heap: Global, text: &str) -> Result<Script, Halt> {
         asked.push(read_asked(heap, before, line)?)?;
     }
     Ok(Script {
-        levels,
-        bounds,
-        claims,
+        places,
         ceiling,
         shares,
         asked,

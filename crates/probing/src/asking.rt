@@ -72,14 +72,10 @@ impl Probe {
 
     // Answers the line of a call on the opened book.
     fn call_line(&mut self, heap: Global, line: &str) -> Result<String, Halt> {
-        let Some(verb) = verb_of(word_at(line, 0), word_at(line, 4)) else {
-            return Err(Halt::NoCall(Wrong::Verb));
-        };
+        let verb = verb_of(word_at(line, 0), word_at(line, 4)).ok_or(Wrong::Verb)?;
         let handed = Handed::by(line)?;
         let numbers = read_numbers(heap, line, verb.words() + 3)?;
-        let Some(call) = call_of(verb, &numbers[..]) else {
-            return Err(Halt::NoCall(Wrong::Count));
-        };
+        let call = call_of(verb, &numbers[..]).ok_or(Wrong::Count)?;
         let Lent {
             levels,
             bounds,

@@ -37,7 +37,7 @@ loop-i-preserved g c = λ sound held.
     law_step ops stands means (handed l b v) (listed c.args.book.now) sound c.args.calls.now x y z c.args.answers.now c.loop-i.answers c.loop-i.i _ c.step.result
     within room (get_or-take c.min-n.result c.args.calls.now c.loop-i.i _ (omega (arith, few)) ∙ get_or_default _ _ _ _ within) (c.loop-i.invariant sound held) _ same c.step.ensures.does
 
-pub returns : goal.returns
-returns g c =
+pub returns-clause-carried : goal.returns-clause-carried
+returns-clause-carried g c =
     let all : c.min-n.result ≡ c.loop-i.i = omega (arith, length-take c.min-n.result c.args.calls.now) in
-    record { count = c.min-n.ensures; carried = rw all c.loop-i.invariant }
+    rw all c.loop-i.invariant

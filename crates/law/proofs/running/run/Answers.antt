@@ -8,8 +8,8 @@ use Rattle.law.proofs.Runs.{law_run}
 use Rattle.law.proofs.Truths.{figures_stand_lem}
 use Rattle.law.proofs.running.run.Goals as goal
 
-pub returns : goal.returns
-returns g c =
+pub returns-clause-law : goal.returns-clause-law
+returns-clause-law g c =
     let ops = g.R.Reckoning.operations in
     let stands = g.R.Reckoning.stands in
     let means : FiguresStand ops stands =
@@ -22,10 +22,6 @@ returns g c =
     let z = state c.carry_out.new.book c.carry_out.new.levels c.carry_out.new.bounds c.carry_out.new.values in
     let same = handed_same c.open.auto.levels c.open.auto.bounds c.open.auto.values in
     let opens = c.in_ok-open.ensures in
-    record {
-      count = c.carry_out.ensures.count;
-      law =
-          subst (λ (n : ℕ). Law ops stands (handed l b v) c.args.ceiling c.args.shares.now None (take n c.args.calls.now) x z c.args.answers.now c.carry_out.new.answers) c.carry_out.ensures.count
-          (law_run ops stands means (handed l b v) c.args.ceiling c.args.shares.now (take c.carry_out.result c.args.calls.now) x y z c.args.answers.now c.carry_out.new.answers
-          opens.declines (opens.list refl) (opens.holds refl) (opens.keeps refl) _ same c.carry_out.ensures.carried);
-    }
+    subst (λ (n : ℕ). Law ops stands (handed l b v) c.args.ceiling c.args.shares.now None (take n c.args.calls.now) x z c.args.answers.now c.carry_out.new.answers) c.carry_out.ensures.count
+    (law_run ops stands means (handed l b v) c.args.ceiling c.args.shares.now (take c.carry_out.result c.args.calls.now) x y z c.args.answers.now c.carry_out.new.answers
+    opens.declines (opens.list refl) (opens.holds refl) (opens.keeps refl) _ same c.carry_out.ensures.carried)
