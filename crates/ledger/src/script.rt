@@ -6,7 +6,7 @@ use law::call::Call;
 use scripts::input::Fault;
 use scripts::numbers::{NoNumbers, read_numbers};
 use scripts::verb::{Verb, call_of, verb_of};
-use std::alloc::{AllocError, AllocFailed, Global};
+use std::alloc::{AllocError, Global};
 
 // A line that is wrong.
 pub(crate) type Wrong = Fault<&'static str>;
@@ -23,15 +23,6 @@ impl From<AllocError> for Halt {
 
     fn from(e: AllocError) -> Halt {
         Halt::Memory(e)
-    }
-}
-
-impl<T> From<AllocFailed<T>> for Halt
-where
-    T: Drop,
-{
-    fn from(e: AllocFailed<T>) -> Halt {
-        Halt::Memory(e.into())
     }
 }
 
@@ -77,13 +68,10 @@ pub(crate) struct Script {
 impl Script {
     // The calls in their order.
     pub(crate) fn calls(&self, heap: Global) -> Result<Vec<Call<'_>>, AllocError> {
-        let mut calls = Vec::new(heap);
-        for asked in self.asked.iter() {
-            if let Some(call) = call_of(asked.verb, &asked.numbers[..]) {
-                calls.push(call)?;
-            }
-        }
-        Ok(calls)
+        self.asked
+            .iter()
+            .filter_map(|asked| call_of(asked.verb, &asked.numbers[..]))
+            .collect(heap)
     }
 }
 
@@ -178,10 +166,9 @@ pub(crate) fn read_script(heap: Global, text: &str) -> Result<Script, Halt> {
         return Err(wrong_at(1, "a script begins with places and open"));
     };
     let (ceiling, shares) = read_opening(heap, second)?;
-    let mut asked = Vec::new(heap);
-    for (before, line) in lines {
-        asked.push(read_asked(heap, before, line)?)?;
-    }
+    let asked = lines
+        .map(|(before, line)| read_asked(heap, before, line))
+        .try_collect(heap)?;
     Ok(Script {
         places,
         ceiling,

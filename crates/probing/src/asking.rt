@@ -23,16 +23,13 @@ const UNWRITTEN: u8 = 0xaa;
 
 // The pairs of loss and rate that numbers make two by two.
 fn pairs_of(heap: Global, numbers: &[u32]) -> Result<Vec<Pair>, AllocError> {
-    let mut pairs = Vec::new(heap);
-    for two in numbers.chunks_exact(2) {
-        if let [loss, rate] = two {
-            pairs.push(Pair {
-                loss: *loss,
-                rate: *rate,
-            })?;
-        }
-    }
-    Ok(pairs)
+    numbers
+        .chunks_exact(2)
+        .map(|two| Pair {
+            loss: two[0],
+            rate: two[1],
+        })
+        .collect(heap)
 }
 
 // Answers a line `count level loss rate ..`.
