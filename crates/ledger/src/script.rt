@@ -1,5 +1,6 @@
 // A script: how many places there are, the opening, and the calls.
-ghost use Rattle.std.specs.Prelude.{◌≡◌};
+ghost use Rattle.std.specs.Prelude.{◌≡◌, true, vec_len};
+ghost use Rattle.scripts.specs.Asked.{takes};
 ghost use Rattle.ledger.specs.declared.script.Halt.TheVariants.{NoScript, Memory};
 
 use law::call::Call;
@@ -41,11 +42,12 @@ struct Line {
     numbers: Vec<u32>,
 }
 
-// A call of a script by its verb and its numbers.
+// A call of a script by its verb and its numbers, as many as the verb takes.
 #[derive(Drop)]
 struct Asked {
     verb: Verb,
     numbers: Vec<u32>,
+    ghost taken: { takes verb (vec_len numbers) ≡ true },
 }
 
 // How many places of each kind there are.
@@ -70,7 +72,7 @@ impl Script {
     pub(crate) fn calls(&self, heap: Global) -> Result<Vec<Call<'_>>, AllocError> {
         self.asked
             .iter()
-            .filter_map(|asked| call_of(asked.verb, &asked.numbers[..]))
+            .map(|asked| call_of(asked.verb, &asked.numbers[..]).unwrap())
             .collect(heap)
     }
 }
