@@ -13,7 +13,7 @@ use book::places::Lent;
 use book::refusal::Refusal;
 use reckoning::reckoning::Reckoning;
 
-// Carries out one call on the book.
+// Carries out one call on the book. It takes the places as the book's own calls do, each kind lent by itself.
 pub fn step<R: Reckoning>(
     book: &mut Book,
     call: Call,
@@ -71,6 +71,7 @@ fn carry_out<R: Reckoning>(
     ensures carried { Sound (handed_of (held places.old)) (listed book.old) → Holds R.Reckoning.operations book.old (held places.old) → CarriedOut R.Reckoning.operations R.Reckoning.stands (handed_of (held places.old)) (listed book.old) (take result calls.now) (state book.old (held places.old)) (state book.new (held places.new)) answers.old answers.new }
 {
     let n = calls.len().min(answers.len());
+    // Answers are written by index: of what a zip lends out by iter_mut no element is known after it.
     for (i, call) in calls[..n].iter().enumerate() {
         answers[i] = step::<R>(book, *call, places);
     }

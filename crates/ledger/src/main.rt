@@ -41,9 +41,11 @@ fn carry_out(rt: &HostRuntime) -> anyhow::Result<()> {
 // The answers of a script, one a line. All memory is taken before the run.
 fn answers(heap: Global, script: &Script) -> Result<Vec<u8>, AllocError> {
     let mut book = Book::new(heap)?;
-    let mut levels: Vec<u32> = vec![in heap; 0; script.levels]?;
-    let mut bounds: Vec<Grains> = vec![in heap; Grains { lower: 0, upper: 0 }; script.bounds]?;
-    let mut values: Vec<Option<u16>> = vec![in heap; None; script.claims]?;
+    let mut levels: Vec<u32> = vec![in heap; 0; script.places.levels]?;
+    let mut bounds: Vec<Grains> = vec![in heap; Grains { lower: 0, upper: 0 }; script
+        .places
+        .bounds]?;
+    let mut values: Vec<Option<u16>> = vec![in heap; None; script.places.claims]?;
     let calls: Vec<Call> = script.calls(heap)?;
     let mut told: Vec<Result<Answer<Option<u16>>, Refusal>> = vec![in heap; Ok(
         Answer::Done

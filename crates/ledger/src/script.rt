@@ -1,17 +1,18 @@
 // A script: how many places there are, the opening, and the calls.
-ghost use Rattle.std.specs.Prelude.{◌≡◌};
+ghost use Rattle.std.specs.Prelude.{◌≡◌, true, vec_len};
+ghost use Rattle.scripts.specs.Asked.{takes};
 ghost use Rattle.ledger.specs.declared.script.Halt.TheVariants.{NoScript, Memory};
 
 use law::call::Call;
 use scripts::input::Fault;
 use scripts::numbers::{NoNumbers, read_numbers};
 use scripts::verb::{Verb, call_of, verb_of};
-use std::alloc::{AllocError, AllocFailed, Global};
+use std::alloc::{AllocError, Global};
 
 // A line that is wrong.
 pub(crate) type Wrong = Fault<&'static str>;
 
-// Why there is no script: a line is wrong, or there is no memory.
+// Why there is no script: a line is wrong, or there is no memory. Each crate has such an enum of its own, since only there can ? be told how to make it.
 #[derive(Drop)]
 pub(crate) enum Halt {
     NoScript(Wrong),
@@ -23,15 +24,6 @@ impl From<AllocError> for Halt {
 
     fn from(e: AllocError) -> Halt {
         Halt::Memory(e)
-    }
-}
-
-impl<T> From<AllocFailed<T>> for Halt
-where
-    T: Drop,
-{
-    fn from(e: AllocFailed<T>) -> Halt {
-        Halt::Memory(e.into())
     }
 }
 
@@ -50,18 +42,26 @@ struct Line {
     numbers: Vec<u32>,
 }
 
-// A call of a script by its verb and its numbers.
+// A call of a script by its verb and its numbers, as many as the verb takes.
 #[derive(Drop)]
 struct Asked {
     verb: Verb,
     numbers: Vec<u32>,
+    ghost taken: { takes verb (vec_len numbers) ≡ true },
 }
 
-#[derive(Drop)]
-pub(crate) struct Script {
+// How many places of each kind there are.
+#[derive(Clone, Copy)]
+pub(crate) struct Places {
     pub(crate) levels: usize,
     pub(crate) bounds: usize,
     pub(crate) claims: usize,
+}
+
+// A script whose lines are all right.
+#[derive(Drop)]
+pub(crate) struct Script {
+    pub(crate) places: Places,
     pub(crate) ceiling: u32,
     pub(crate) shares: Vec<u32>,
     asked: Vec<Asked>,
@@ -70,13 +70,10 @@ pub(crate) struct Script {
 impl Script {
     // The calls in their order.
     pub(crate) fn calls(&self, heap: Global) -> Result<Vec<Call<'_>>, AllocError> {
-        let mut calls = Vec::new(heap);
-        for asked in self.asked.iter() {
-            if let Some(call) = call_of(asked.verb, &asked.numbers[..]) {
-                calls.push(call)?;
-            }
-        }
-        Ok(calls)
+        self.asked
+            .iter()
+            .map(|asked| call_of(asked.verb, &asked.numbers[..]).unwrap())
+            .collect(heap)
     }
 }
 
@@ -130,13 +127,17 @@ fn read_asked(heap: Global, before: usize, line: &str) -> Result<Asked, Halt> {
     }
 }
 
-// How many places of each kind there are, by the first line.
-fn read_places(heap: Global, line: &str) -> Result<(usize, usize, usize), Halt> {
+// The places that the first line asks for.
+fn read_places(heap: Global, line: &str) -> Result<Places, Halt> {
     let Line { kind, numbers } = read_line(heap, 0, line)?;
     match (kind, &numbers[..]) {
         (Kind::Places, [levels, bounds, claims])
             if *levels <= 65_536 && *bounds <= 524_288 && *claims <= 524_288 => {
-            Ok((*levels as usize, *bounds as usize, *claims as usize))
+            Ok(Places {
+                levels: *levels as usize,
+                bounds: *bounds as usize,
+                claims: *claims as usize,
+            })
         }
         (Kind::Places, _) => {
             let what = "places takes three numbers, at most 65536, 524288 and 524288";
@@ -162,19 +163,16 @@ pub(crate) fn read_script(heap: Global, text: &str) -> Result<Script, Halt> {
     let Some((_, first)) = lines.next() else {
         return Err(wrong_at(0, "a script begins with places and open"));
     };
-    let (levels, bounds, claims) = read_places(heap, first)?;
+    let places = read_places(heap, first)?;
     let Some((_, second)) = lines.next() else {
         return Err(wrong_at(1, "a script begins with places and open"));
     };
     let (ceiling, shares) = read_opening(heap, second)?;
-    let mut asked = Vec::new(heap);
-    for (before, line) in lines {
-        asked.push(read_asked(heap, before, line)?)?;
-    }
+    let asked = lines
+        .map(|(before, line)| read_asked(heap, before, line))
+        .try_collect(heap)?;
     Ok(Script {
-        levels,
-        bounds,
-        claims,
+        places,
         ceiling,
         shares,
         asked,

@@ -23,16 +23,13 @@ const UNWRITTEN: u8 = 0xaa;
 
 // The pairs of loss and rate that numbers make two by two.
 fn pairs_of(heap: Global, numbers: &[u32]) -> Result<Vec<Pair>, AllocError> {
-    let mut pairs = Vec::new(heap);
-    for two in numbers.chunks_exact(2) {
-        if let [loss, rate] = two {
-            pairs.push(Pair {
-                loss: *loss,
-                rate: *rate,
-            })?;
-        }
-    }
-    Ok(pairs)
+    numbers
+        .chunks_exact(2)
+        .map(|two| Pair {
+            loss: two[0],
+            rate: two[1],
+        })
+        .collect(heap)
 }
 
 // Answers a line `count level loss rate ..`.
@@ -66,14 +63,10 @@ impl Probe {
 
     // Answers the line of a call on the opened book.
     fn call_line(&mut self, heap: Global, line: &str) -> Result<String, Halt> {
-        let Some(verb) = verb_of(word_at(line, 0), word_at(line, 4)) else {
-            return Err(Halt::NoCall(Wrong::Verb));
-        };
+        let verb = verb_of(word_at(line, 0), word_at(line, 4)).ok_or(Wrong::Verb)?;
         let handed = handed_by(line)?;
         let numbers = read_numbers(heap, line, verb.words() + 3)?;
-        let Some(call) = call_of(verb, &numbers[..]) else {
-            return Err(Halt::NoCall(Wrong::Count));
-        };
+        let call = call_of(verb, &numbers[..]).ok_or(Wrong::Count)?;
         let mut places = self.places.lend(handed)?;
         let told = step::<Claims>(&mut self.book, call, &mut places);
         Ok(format!(in heap; "{}", Said(told))?)

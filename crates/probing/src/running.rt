@@ -1,4 +1,6 @@
 // A script of single calls, carried out.
+ghost use Rattle.std.specs.Prelude.{◌≤◌, IfOk, IfSome};
+
 use crate::lending::Probe;
 use crate::wrong::{Halt, Wrong};
 use scripts::input::Fault;
@@ -13,7 +15,9 @@ pub struct Transcript {
 }
 
 // Carries out a script on a book before open, line by line.
-pub fn run_script(heap: Global, script: &str) -> Result<Transcript, AllocError> {
+pub fn run_script(heap: Global, script: &str) -> Result<Transcript, AllocError>
+    ensures from_one { IfOk result (λ t. IfSome t.fault (λ f. 1 ≤ f.line)) }
+{
     let mut probe = Probe::new(heap)?;
     let mut text = Vec::new(heap);
     for (before, line) in script.lines().enumerate() {

@@ -1,8 +1,8 @@
 // The numbers of a line.
-ghost use Rattle.std.specs.Prelude.{◌≡◌, alloc_error};
+ghost use Rattle.std.specs.Prelude.{◌≡◌};
 ghost use Rattle.scripts.specs.declared.numbers.NoNumbers.TheVariants.{NotANumber, NoMemory};
 
-use std::alloc::{AllocError, AllocFailed, Global};
+use std::alloc::{AllocError, Global};
 use std::num::ParseIntError;
 
 // Why a line gives no numbers: a word is none of 32 bits, or there is no memory.
@@ -28,19 +28,10 @@ impl From<AllocError> for NoNumbers {
     }
 }
 
-impl From<AllocFailed<u32>> for NoNumbers {
-    ghost from_gives = { λ _ r. r ≡ NoMemory alloc_error };
-
-    fn from(e: AllocFailed<u32>) -> NoNumbers {
-        NoNumbers::NoMemory(e.into())
-    }
-}
-
 // The numbers of a line's words past the first `skip`.
 pub fn read_numbers(heap: Global, line: &str, skip: usize) -> Result<Vec<u32>, NoNumbers> {
-    let mut numbers = Vec::new(heap);
-    for word in line.split(' ').skip(skip) {
-        numbers.push(word.parse()?)?;
-    }
-    Ok(numbers)
+    line.split(' ')
+        .skip(skip)
+        .map(|word| -> Result<u32, NoNumbers> { Ok(word.parse()?) })
+        .try_collect(heap)
 }

@@ -39,7 +39,7 @@ loop-i-preserved g c =
           within room (get_or-take c.min-n.result c.args.calls.now c.loop-i.i _ (omega (arith, few)) ∙ get_or_default _ _ _ _ within) (c.loop-i.invariant.1 sound holds) _ same c.step.ensures.does,
     )
 
-pub returns : goal.returns
-returns g c =
+pub returns-clause-carried : goal.returns-clause-carried
+returns-clause-carried g c =
     let all : c.min-n.result ≡ c.loop-i.i = omega (arith, length-take c.min-n.result c.args.calls.now) in
-    record { count = c.min-n.ensures; lent = c.loop-i.invariant.0; carried = rw all c.loop-i.invariant.1 }
+    rw all c.loop-i.invariant.1
