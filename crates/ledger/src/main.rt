@@ -45,7 +45,7 @@ fn answers(heap: Global, script: &Script) -> Result<Vec<u8>, AllocError> {
     let mut bounds: Vec<Grains> = vec![in heap; Grains { lower: 0, upper: 0 }; script
         .places
         .bounds]?;
-    let mut values: Vec<Option<u16>> = vec![in heap; None; script.places.claims]?;
+    let mut values: Vec<Option<u16>> = vec![in heap; None; script.places.values]?;
     let calls: Vec<Call> = script.calls(heap)?;
     let mut told: Vec<Result<Answer<Option<u16>>, Refusal>> = vec![in heap; Ok(
         Answer::Done

@@ -3,6 +3,7 @@ ghost use Rattle.std.specs.Prelude.{◌≡◌, true, vec_len};
 ghost use Rattle.scripts.specs.Asked.{takes};
 ghost use Rattle.ledger.specs.declared.script.Halt.TheVariants.{NoScript, Memory};
 
+use book::shown::Handed;
 use law::call::Call;
 use scripts::input::Fault;
 use scripts::numbers::{NoNumbers, read_numbers};
@@ -50,18 +51,9 @@ struct Asked {
     ghost taken: { takes verb (vec_len numbers) ≡ true },
 }
 
-// How many places of each kind there are.
-#[derive(Clone, Copy)]
-pub(crate) struct Places {
-    pub(crate) levels: usize,
-    pub(crate) bounds: usize,
-    pub(crate) claims: usize,
-}
-
-// A script whose lines are all right.
 #[derive(Drop)]
 pub(crate) struct Script {
-    pub(crate) places: Places,
+    pub(crate) places: Handed,
     pub(crate) ceiling: u32,
     pub(crate) shares: Vec<u32>,
     asked: Vec<Asked>,
@@ -128,15 +120,15 @@ fn read_asked(heap: Global, before: usize, line: &str) -> Result<Asked, Halt> {
 }
 
 // The places that the first line asks for.
-fn read_places(heap: Global, line: &str) -> Result<Places, Halt> {
+fn read_places(heap: Global, line: &str) -> Result<Handed, Halt> {
     let Line { kind, numbers } = read_line(heap, 0, line)?;
     match (kind, &numbers[..]) {
-        (Kind::Places, [levels, bounds, claims])
-            if *levels <= 65_536 && *bounds <= 524_288 && *claims <= 524_288 => {
-            Ok(Places {
+        (Kind::Places, [levels, bounds, values])
+            if *levels <= 65_536 && *bounds <= 524_288 && *values <= 524_288 => {
+            Ok(Handed {
                 levels: *levels as usize,
                 bounds: *bounds as usize,
-                claims: *claims as usize,
+                values: *values as usize,
             })
         }
         (Kind::Places, _) => {

@@ -1,9 +1,7 @@
-use Rattle.std.proofs.Common.{◌≡◌, ℕ, List, [], ◌∷◌, length, Ok, refl, subst, arith, rules}
+use Rattle.std.proofs.Common.{◌≡◌, [], ◌∷◌, length, refl, arith, rules}
 use Rattle.std.proofs.lemmas.Result.{err_from_is_err_and}
-use Rattle.lines.specs.Reads.{ReadsLine}
 use Rattle.tariff.specs.declared.refusal.LineFault.TheVariants.{Share}
-use Rattle.tariff.proofs.Faults.{mapped_ok, mapped_err}
-use Rattle.tariff.proofs.Shares.{one_number}
+use Rattle.tariff.proofs.Faults.{mapped_err}
 use Rattle.tariff.proofs.reading.share_line.Goals as goal
 
 pub returns-in_err-next : goal.returns-in_err-next
@@ -13,9 +11,3 @@ returns-in_err-next c =
     let read = rw m.1 at c.read_line-read.ensures in
     let p = err_from_is_err_and c.from_residual.result c.from_residual.ensures.1 in
     rw (p.1, p.2, m.2) (refl, λ n line. read.reads (n ∷ []) (omega arith) line, read.fault)
-
-pub returns : goal.returns
-returns c =
-    let m = mapped_ok _ c.read_line-read.result c.map_err.result _ c.map_err.ensures.cases c.in_ok-next.was in
-    let read = rw m at c.read_line-read.ensures.reads in
-    subst (λ (xs : List ℕ). ReadsLine c.args.body.now c.args.place 83 xs (Ok c.in_ok-next.next)) (one_number c.read_line-read.new.numbers c.read_line-read.auto.numbers) read

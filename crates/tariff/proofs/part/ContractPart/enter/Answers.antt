@@ -2,15 +2,8 @@ use Rattle.std.proofs.Common.{◌+◌, arith, rules}
 use Rattle.std.proofs.lemmas.Result.{err_from_is_err_and}
 use Rattle.book.specs.Places.{held, handed_of}
 use Rattle.book.specs.Laid.{state}
-use Rattle.tariff.proofs.Enterings.{so_far_none, so_far_more, part_entered, part_declined}
+use Rattle.tariff.proofs.Enterings.{so_far_more, part_declined}
 use Rattle.tariff.proofs.part.ContractPart.enter.Goals as goal
-
-pub loop-place-init : goal.loop-place-init
-loop-place-init g c =
-    let h = handed_of (held c.args.places.now) in
-    let x = state c.args.book.now (held c.args.places.now) in
-    let lines = c.requires.lines in
-    (omega arith, lines, c.requires.places, λ empty holds. so_far_none g.R.Reckoning.operations h c.args.self.now.bytes.now (2 + c.args.self.now.scenarios) (omega arith) x lines empty holds, search rules)
 
 pub returns-in_err-place : goal.returns-in_err-place
 returns-in_err-place g c =
@@ -44,13 +37,3 @@ loop-place-preserved g c =
           so_far_more g.R.Reckoning.operations h c.args.self.now.bytes.now (2 + c.args.self.now.scenarios) (omega arith) x c.args.self.now.base c.loop-place.place c.in_ok-place.place y z _ same so (entered.enters so.entered.holds),
       search rules,
     )
-
-pub loop-place-smaller : goal.loop-place-smaller
-loop-place-smaller g c = let walks = c.in_ok-place.ensures.walks in omega (arith, walks.0, walks.1)
-
-pub returns : goal.returns
-returns g c =
-    let h = handed_of (held c.args.places.now) in
-    let x = state c.args.book.now (held c.args.places.now) in
-    let y = state c.loop-place.book (held c.loop-place.places) in
-    record { lent = search rules; enters = λ empty holds. part_entered g.R.Reckoning.operations h c.args.self.now.bytes.now (2 + c.args.self.now.scenarios) (omega arith) x c.loop-place.place y (omega arith) (c.loop-place.invariant.3 empty holds) }
