@@ -13,7 +13,7 @@ use std::alloc::{AllocError, Global};
 // A line that is wrong.
 pub(crate) type Wrong = Fault<&'static str>;
 
-// Why there is no script: a line is wrong, or there is no memory. Each crate has such an enum of its own, since only there can ? be told how to make it.
+// Why there is no script: a line is wrong, or there is no memory. A generic enum in scripts would be no plainer: it would save the few lines here, and cost its users a map from the fault of a word to that of a line.
 #[derive(Drop)]
 pub(crate) enum Halt {
     NoScript(Wrong),

@@ -47,7 +47,7 @@ impl From<ParseIntError> for Wrong {
     }
 }
 
-// Why a line is not answered: it is no call, or there is no memory.
+// Why a line is not answered: it is no call, or there is no memory. A generic enum in scripts would be no plainer, since what ? makes of each fault is written here either way.
 #[derive(Drop)]
 pub(crate) enum Halt {
     NoCall(Wrong),

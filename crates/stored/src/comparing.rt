@@ -6,6 +6,7 @@ use std::fs;
 pub fn compare<A: Answering>(rt: &HostRuntime, folder: &str, plural: &str) -> anyhow::Result<()> {
     let path = format!(in rt.alloc(); "{folder}index")?;
     let index = fs::read_to_string(rt, path.as_str())?;
+    // Counted in a loop, since a case that differs is printed, and one that cannot be run ends it.
     let mut agreed: usize = 0;
     for name in index.as_str().lines() {
         if agrees::<A>(rt, folder, name)? {
