@@ -9,7 +9,7 @@ use reckoning::rate::Rate;
 pub struct Contract {
     pub(crate) key: u32,
     pub(crate) loss: Loss,
-    // an array, since only the making of a book may take memory
+    // an array: only the making of a book may take memory, and an ArrayVec is no Copy
     pub(crate) rates: [Rate; 8],
     ghost small_key: { key < 2 ^ 32 },
     ghost eight: { length rates ≡ 8 },

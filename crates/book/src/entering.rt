@@ -27,7 +27,7 @@ use reckoning::reckoning::Reckoning;
 #[derive(Clone, Copy, Debug, PartialEq, Eq)]
 pub struct Entered;
 
-// Whether two keys are the same: the one place where keys are compared.
+// Whether two keys are the same: the one place where keys are compared. A type of keys would have to be made of a number at every call.
 fn is_same_key(a: u32, b: u32) -> bool
     ensures { result ≡ same_key a b }
 {

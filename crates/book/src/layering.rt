@@ -34,6 +34,7 @@ impl Book {
         let mut low: u64 = 0;
         let mut high: u64 = 0;
         let mut at = from;
+        // by index: the mix beside a level lies in a row for each scenario, and chance_at takes the place in them
         for i in 0..self.kept {
             let told = self.chance_at(0, i + 1, bounds);
             let end = end_of_stretch(&levels[..self.kept], i + 1, at, to);

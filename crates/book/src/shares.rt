@@ -5,7 +5,7 @@ ghost use Rattle.reckoning.specs.Outcomes.{summed};
 // Shares in millionths, one a scenario, that sum to a million.
 #[derive(Clone, Copy)]
 pub struct Shares {
-    // an array and its count, since only the making of a book may take memory
+    // an array and its count: only the making of a book may take memory, and an ArrayVec is no Copy
     pub(crate) each: [u32; 8],
     pub(crate) count: usize,
     ghost some: { 1 ≤ count },

@@ -151,7 +151,7 @@ impl Book {
         }
     }
 
-    // The bounds of the chance that the loss stays at or under the level, in a scenario, or for 0 in the mix.
+    // The bounds of the chance that the loss stays at or under the level, in a scenario, or for 0 in the mix: callers name the mix by that number.
     pub fn chance<R: Reckoning>(
         &self,
         scenario: u32,

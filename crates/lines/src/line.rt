@@ -7,7 +7,7 @@ use crate::fault::Malformed;
 use crate::number::{field_end, number};
 
 // Reads at a place a line of this letter with as many numbers as there are places for,
-// and answers the place behind it.
+// and answers the place behind it. Bytes and place stay apart, since faults are told by the place in the whole file.
 pub fn read_line(
     bytes: &[u8],
     place: usize,

@@ -24,7 +24,7 @@ const LEVELS: usize = 256;
 // The places for them in each of eight scenarios.
 const VALUES: usize = 2048;
 
-// Enough bytes for each line of a statement.
+// Enough bytes for each line of a statement, which the public calls put into bytes that they are handed.
 const LINE: usize = 64;
 
 // A statement, with its bytes: a table of levels, or a refusal.

@@ -22,7 +22,7 @@ impl fmt::Display for Level {
     }
 }
 
-// A count of claims, or none.
+// A count of claims, or none. It is no Level at another width: the word for what is missing is part of what each promises.
 #[derive(Clone, Copy, Debug)]
 pub struct Count(pub Option<u16>);
 
