@@ -1,5 +1,5 @@
 // Laying a book out in its places: the book without contracts, and one contract more.
-// The places are taken apart here: levels are read while values are written.
+// The places are taken apart here: extend reads levels while it lends out values, which the check does not follow through one struct.
 ghost use Rattle.std.specs.Prelude.{◌≡◌, ℕ, ◌+◌, ◌*◌, ◌<◌, ◌≤◌, List, [], ◌∷◌, length, drop, IfSome, MatchOption, slice_set};
 ghost use Rattle.book.specs.Anyhow.{ExtendsOver};
 ghost use Rattle.book.specs.Merging.{row_of};

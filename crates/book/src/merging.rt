@@ -84,6 +84,7 @@ pub(crate) fn merged_len(levels: &[u32], merge: Merge) -> usize
     ensures turns { result ≡ turns (2 * merge.own) levels.now merge.own merge.moved merge.loss }
     ensures grows { merge.own ≤ result }
 {
+    // counted in a loop: a turn gives what is left, and the levels are not laid out anywhere
     let mut left = merge;
     let mut n = 0;
     while let Some((_, rest)) = left.turn(levels) {

@@ -33,6 +33,7 @@ fn lay_all<R: Reckoning>(
     begin::<R>(frame.scenarios, places.levels, places.bounds, places.values);
     let mut len = 1;
     for contract in contracts {
+        // each field by name: a struct that keeps facts has no ..frame
         let before = Frame {
             ceiling: frame.ceiling,
             scenarios: frame.scenarios,

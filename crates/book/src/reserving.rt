@@ -27,6 +27,7 @@ impl Book {
         requires callable { F.IsAlwaysCallable passes }
         ensures { (test : Grains → Bool) → AnswersBy (F.post passes) test → FirstOf (λ i. test (mix_beside self.now bounds.now i)) levels.now self.now.kept result }
     {
+        // the loop yields what it found: a search by find would have to give back both the place and the level
         let mut rest = levels[..self.kept].iter().enumerate();
         loop {
             let Some((i, level)) = rest.next() else {

@@ -64,7 +64,7 @@ fn mix(shares: &[u32], rows: &[Grains], places: usize, found: usize) -> Grains
     }
     Grains {
         lower: lower / 1_000_000,
-        upper: (upper + 999_999) / 1_000_000,
+        upper: upper.div_ceil(1_000_000),
     }
 }
 

@@ -9,7 +9,7 @@ use crate::merging::Merge;
 use reckoning::rate::Rate;
 use reckoning::reckoning::Reckoning;
 
-// The values at the levels once a contract of that rate is merged. The levels are still the old ones.
+// The values at the levels once a contract of that rate is merged. The levels are still the old ones. It walks as merge_levels does, which writes where it reads and so can't lend its levels to a walk for both.
 fn merge_row<R: Reckoning>(
     levels: &[u32],
     merge: Merge,

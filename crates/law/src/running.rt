@@ -13,7 +13,7 @@ use book::places::Lent;
 use book::refusal::Refusal;
 use reckoning::reckoning::Reckoning;
 
-// Carries out one call on the book. It takes the places as the book's own calls do, each kind lent by itself.
+// Carries out one call on the book. Each answer is made behind a ?: in generic code no map can be handed what makes it.
 pub fn step<R: Reckoning>(
     book: &mut Book,
     call: Call,

@@ -69,7 +69,7 @@ impl Script {
     }
 }
 
-// That there is no script, for what is wrong with the line behind so many.
+// That there is no script, for what is wrong with the line that has so many before it.
 fn wrong_at(before: usize, what: &'static str) -> Halt {
     Halt::NoScript(Fault {
         line: before.saturating_add(1),
@@ -86,7 +86,7 @@ fn kind_of(first: &str, second: &str) -> Option<Kind> {
     }
 }
 
-// The line behind so many.
+// A line, with its kind and its numbers.
 fn read_line(heap: Global, before: usize, line: &str) -> Result<Line, Halt> {
     let mut words = line.split(' ');
     let first = words.next().unwrap_or("");

@@ -21,6 +21,7 @@ pub fn read_trailer(bytes: &[u8]) -> Option<Trailer>
         return None;
     }
     behind(bytes, 0, b'T')?;
+    // five digits fit
     let ceiling = spaced_digits(bytes, 1, 5)? as u32;
     let scenarios = spaced_digits(bytes, 7, 1)? as usize;
     let contracts = spaced_digits(bytes, 9, 3)? as usize;

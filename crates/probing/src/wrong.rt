@@ -1,6 +1,7 @@
 // Why a line gets no answer.
-ghost use Rattle.std.specs.Prelude.{◌≡◌};
+ghost use Rattle.std.specs.Prelude.{◌≡◌, Some};
 ghost use Rattle.probing.specs.declared.wrong.Wrong.TheVariants.{Number};
+ghost use Rattle.probing.specs.Wrongs.{wrong_said};
 ghost use Rattle.probing.specs.declared.wrong.Halt.TheVariants.{NoCall, Memory};
 
 use hex::FromHexError;
@@ -27,6 +28,8 @@ pub enum Wrong {
 }
 
 impl fmt::Display for Wrong {
+    ghost output = { λ wrong. Some (wrong_said wrong) };
+
     fn fmt<W: fmt::Write>(&self, f: &mut fmt::Formatter<W>) -> fmt::Result {
         f.write_str(match self {
             Wrong::Verb => "there is no such call",

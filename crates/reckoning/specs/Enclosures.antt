@@ -1,13 +1,13 @@
 -- The laws of Bounds.
-use Rattle.std.specs.Prelude.{◌≡◌, ℕ, ◌+◌, ◌*◌, ◌^◌, ◌≤◌, cond, List, [], ◌∷◌, ◌++◌, length, nat_le}
-use Rattle.std.proofs.Common.{sym, subst, ◌∙◌, add-one, arith}
+use Rattle.std.specs.Prelude.{◌≡◌, ℕ, ◌+◌, ◌-◌, ◌*◌, ◌^◌, ◌≤◌, cond, List, [], ◌∷◌, ◌++◌, length, nat_le}
+use Rattle.std.proofs.Common.{sym, subst, ◌∙◌, mul-le-mul_left, add-one, arith}
 use Rattle.std.proofs.Math.Nat.{pow-succ'}
 use Rattle.std.proofs.lemmas.List.{length_push}
 use Rattle.std.proofs.lemmas.Bool.{cond-true, cond_both, le-leb, leb-true}
 use Rattle.reckoning.specs.declared.grains.Grains.{Grains}
 use Rattle.reckoning.specs.Outcomes.{Family, odds, total, summed, either}
 use Rattle.reckoning.specs.Rounding.{pair, Encloses, rounded_out}
-use Rattle.reckoning.specs.Enclosing.{Ranged, checked, both, blended, Stands}
+use Rattle.reckoning.specs.Enclosing.{Ranged, checked, both, ways, blended, Stands}
 use Rattle.reckoning.specs.Roundings.{rounded_encloses, rounded_narrow, rounded_ranged}
 use Rattle.reckoning.specs.Weights.{total_either}
 
@@ -29,6 +29,13 @@ stands_for_whole = record { ranged = (omega arith, omega arith); encloses = reco
 module _ (r : ℕ) (in_range : r ≤ 1000000) where
   odds_all : summed (odds r) both ≡ 1000000
   odds_all = omega arith
+
+  -- a weighed sum of counts is at most certainty times a million
+  pub ways_bound : (u v : ℕ) → u ≤ 1000000000000 → v ≤ 1000000000000 → ways r u v ≤ 1000000000000000000
+  ways_bound u v p q =
+      let s = 1000000 - r in
+      let split : s + r ≡ 1000000 = omega arith in
+      omega (arith, mul-le-mul_left s p, mul-le-mul_left r q)
 
   pub blended_ranged : (u v : Grains) → Ranged (blended r u v)
   blended_ranged u v =

@@ -1,5 +1,5 @@
 // The statement of a tariff file: a line for each kept level, or why the file is refused.
-ghost use Rattle.std.specs.Prelude.{◌≡◌, ◌≤◌, false, ◌++◌, length, take, IfOk, MatchBool, OnOk};
+ghost use Rattle.std.specs.Prelude.{◌≡◌, ◌≤◌, false, ◌++◌, length, take, IfOk, IsOk, MatchBool, OnOk};
 ghost use Rattle.reckoning.specs.Counting.{counts};
 ghost use Rattle.book.specs.Declines.{places_wrong};
 ghost use Rattle.book.specs.Laid.{Holds};
@@ -46,14 +46,14 @@ impl Statement {
     }
 }
 
-// Appends the line that a call has put at the front of the bytes.
+// Appends the line that a call has put at the front of bytes that were enough for it.
 fn append(text: &mut Vec<u8>, bytes: &[u8], told: Result<usize, TooFew>) -> Result<(), AllocError>
+    requires enough { IsOk told }
     requires within { IfOk told (λ k. k ≤ length bytes.now) }
     ensures appends { OnOk result (IfOk told (λ k. text.new.items ≡ text.old.items ++ take k bytes.now)) }
 {
-    if let Ok(length) = told {
-        text.extend_from_slice(&bytes[..length])?;
-    }
+    let length = told.unwrap();
+    text.extend_from_slice(&bytes[..length])?;
     Ok(())
 }
 

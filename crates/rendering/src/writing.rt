@@ -38,7 +38,7 @@ fn file_length(book: &Book) -> usize
     lines_length(shares, scenarios) + lines_length(contracts, scenarios) + 18
 }
 
-// Puts the file of a book at the front.
+// Puts the file of a book at the front, line by line: a file is longer than the buffer of a line.
 fn put_file(book: &Book, out: &mut [u8])
     requires fits { length (file_text (listed book.now)) ≤ length out.old }
     ensures after { out.new ≡ file_text (listed book.now) ++ drop (length (file_text (listed book.now))) out.old }

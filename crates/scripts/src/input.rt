@@ -1,4 +1,5 @@
 // A script from standard input, and what is wrong with it.
+ghost use Rattle.std.specs.Prelude.{IsErr};
 ghost use Rattle.scripts.specs.Said.{fault_said};
 
 use anyhow::anyhow;
@@ -26,7 +27,9 @@ pub fn end_at<T, W: fmt::Display>(
     rt: &HostRuntime,
     fault: &Fault<W>,
     end: &'static str,
-) -> anyhow::Result<T> {
+) -> anyhow::Result<T>
+    ensures ends { IsErr result }
+{
     eprintln!(rt; "{fault}")?;
     Err(anyhow!(end))
 }

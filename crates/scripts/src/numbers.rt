@@ -5,7 +5,7 @@ ghost use Rattle.scripts.specs.declared.numbers.NoNumbers.TheVariants.{NotANumbe
 use std::alloc::{AllocError, Global};
 use std::num::ParseIntError;
 
-// Why a line gives no numbers: a word is none of 32 bits, or there is no memory.
+// Why a line gives no numbers: a word is no number of 32 bits, or there is no memory. What ? makes of each error is written out, since a derived From would promise nothing of it.
 #[derive(Debug, Drop)]
 pub enum NoNumbers {
     NotANumber,

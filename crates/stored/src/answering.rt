@@ -2,7 +2,7 @@
 use rendering::statement::statement_of;
 use std::fs;
 
-// What a kind of stored case is put to.
+// What a kind of stored case is put to. A trait, since a public function that takes a closure would have to require that it can be called.
 pub trait Answering {
     // The answer to what the file of that name holds.
     fn answer(rt: &HostRuntime, input: &str) -> anyhow::Result<Vec<u8>>;

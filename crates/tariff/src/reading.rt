@@ -23,7 +23,7 @@ use reckoning::reckoning::Reckoning;
 #[derive(Clone, Copy, Debug, PartialEq, Eq)]
 pub struct FileRead;
 
-// The share of the S line at a place, and the place behind it.
+// The share of the S line at a place, and the place behind it. A C line is read likewise, but into other numbers, and told at the byte of the whole file.
 fn share_line(body: &[u8], place: usize) -> Result<(u32, usize), LineFault>
     ensures { ReadsShare body.now place result }
 {
@@ -74,11 +74,11 @@ impl ContractPart<'_> {
         ensures { Counts self.now.bytes.now self.now.base (2 + self.now.scenarios) result }
     {
         let count = 2 + self.scenarios;
-        // The most numbers that a line has, since read is handed no memory for a Vec.
+        // As many numbers as a line can have, since a line is read into a slice that is there.
         let mut numbers = [0u32; 11];
         let mut place = 0;
         let mut lines: usize = 0;
-        // A while, since a line itself says where the next one begins; an iterator would copy out eleven numbers for each, and keep in mind that it told a fault.
+        // A while, since a line says itself where the next one begins. An iterator would hand out the numbers of each line by value, and would have to end after a fault.
         while place < self.bytes.len() {
             place = self.line(place, &mut numbers[..count])?;
             lines += 1;
@@ -103,7 +103,7 @@ impl ContractPart<'_> {
     {
         let begin = self.base + place;
         let count = 2 + self.scenarios;
-        // The most numbers that a line has, since read is handed no memory for a Vec.
+        // As many numbers as a line can have, since a line is read into a slice that is there.
         let mut numbers = [0u32; 11];
         let line = &mut numbers[..count];
         let next = self.line(place, line)?;
@@ -173,7 +173,7 @@ pub fn read<R: Reckoning>(
     ensures comes { IfErr result (MayCome (length file.now)) }
     ensures unchanged { IfErr result (λ e. (telling e).number ≤ 7 → state book.new (held places.new) ≡ state book.old (held places.old)) }
 {
-    // The most scenarios that a trailer can tell, since read is handed no memory for a Vec.
+    // As many shares as a trailer can tell of, since they are read into a slice that is there.
     let mut shares = [0u32; 9];
     let trailer = check_form(file, &mut shares)?;
     let scenarios = trailer.scenarios;

@@ -14,7 +14,7 @@ pub enum CountRefusal {
 }
 
 impl CountRefusal {
-    // The number under which the refusal is told.
+    // The number under which the refusal is told, as a book's refusal has one; a trait for one cast each would be longer.
     pub fn number(self) -> u32
         ensures { result ≡ number_of self }
     {

@@ -57,19 +57,15 @@ loop-s-preserved c =
           c.loop-s-test.true c.loop-s.invariant.1 c.from-share.ensures (upper_is c),
     )
 
-pub overflow_add-result : goal.overflow_add-result
-overflow_add-result c =
-    let ws = c.args.shares.now in
-    let f = λ (s : ℕ). (told_in c.args.places c.args.rows.now c.args.found s).upper in
-    omega (arith, c.loop-s.invariant.1, shared_bound ws f 1000000000000 c.loop-s.s (told_upper c.args.places c.args.rows.now c.args.found), ap (λ n. 1000000000000 * n) c.requires.1.1)
-
 pub returns : goal.returns
 returns c =
     let ws = c.args.shares.now in
     let g = told_in c.args.places c.args.rows.now c.args.found in
     let lower = turn_end ws (λ s. (g s).lower) c.loop-s.s c.loop-s.lower c.loop-s-test.false c.loop-s.invariant.0 in
     let upper = turn_end ws (λ s. (g s).upper) c.loop-s.s c.loop-s.upper c.loop-s-test.false c.loop-s.invariant.1 in
-    let value : pair (c.loop-s.lower / 1000000) ((c.loop-s.upper + 999999) / 1000000) ≡ mixed ws g =
-    ap (λ (a : ℕ). pair (a / 1000000) ((c.loop-s.upper + 999999) / 1000000)) lower
+    let up : c.div_ceil.result ≡ (c.loop-s.upper + 999999) / 1000000 = omega (arith, c.div_ceil.ensures) in
+    let value : pair (c.loop-s.lower / 1000000) c.div_ceil.result ≡ mixed ws g =
+    ap (λ (b : ℕ). pair (c.loop-s.lower / 1000000) b) up
+    ∙ ap (λ (a : ℕ). pair (a / 1000000) ((c.loop-s.upper + 999999) / 1000000)) lower
     ∙ ap (λ (b : ℕ). pair (summed (λ x. x.0 * (g x.1).lower) (numbered 1 ws) / 1000000) ((b + 999999) / 1000000)) upper in
     record { range = subst Ranged (sym value) (mixed_ranged c.args.places c.args.rows.now c.args.found ws c.requires.1.1); value = value }
