@@ -1,7 +1,6 @@
 pub mod Somes
 pub mod Firsts
 pub mod Ranges
-pub mod Handing
 pub mod Admissions
 pub mod Finds
 pub mod Picks

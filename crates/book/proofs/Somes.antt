@@ -1,7 +1,6 @@
 -- Whether some element passes a test: at a place, over a front, over a map.
-use Rattle.std.proofs.Common.{◌≡◌, ℕ, zero, suc, ◌+◌, ◌<◌, Bool, true, false, ◌||◌, List, [], ◌∷◌, ◌++◌, map, length, get_or, take, sym, refl, ap, ◌∙◌, arith}
-use Rattle.std.proofs.lemmas.List.{take_more}
-use Rattle.std.proofs.lemmas.Bool.{or_left, or_right, or_from}
+use Rattle.std.proofs.Common.{◌≡◌, ℕ, zero, suc, ◌<◌, Bool, true, false, ◌||◌, List, [], ◌∷◌, ◌++◌, map, length, get_or, sym, refl, ap, ◌∙◌, arith}
+use Rattle.std.proofs.lemmas.Bool.{or_left, or_right}
 use Rattle.book.specs.Some.{some}
 
 or_assoc : (a b c : Bool) → ((a || b) || c) ≡ (a || (b || c))
@@ -17,10 +16,6 @@ module _ {X : Type 0} (t : X → Bool) where
   some_at [] i d l h = absurd (omega arith)
   some_at (x ∷ xs) zero d l h = or_left (t x) (some t xs) h
   some_at (x ∷ xs) (suc i) d l h = or_right (t x) (some t xs) (some_at xs i d (omega arith) h)
-
-  pub none_more : (xs : List X) (i : ℕ) (d : X) → i < length xs → some t (take i xs) ≡ false → t (get_or xs i d) ≡ false → some t (take (i + 1) xs) ≡ false
-  none_more xs i d l before here =
-      ap (some t) (take_more xs i d l) ∙ some_append (take i xs) (get_or xs i d ∷ []) ∙ or_from (some t (take i xs)) (t (get_or xs i d) || false) before (or_from (t (get_or xs i d)) false here refl)
 
 pub some_map : {X Y : Type 0} (t : Y → Bool) (f : X → Y) (xs : List X) → some t (map f xs) ≡ some (λ x. t (f x)) xs
 some_map t f [] = refl

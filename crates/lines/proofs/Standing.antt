@@ -46,7 +46,3 @@ pub part_stands : (bytes : List ℕ) (from end : ℕ) (text : List ℕ) → from
 part_stands bytes from end text h l e =
     let n : length text ≡ end - from = omega (arith, ap length e, length-take (end - from) (drop from bytes), length-drop from bytes) in
     (omega arith, ap (λ (k : ℕ). take k (drop from bytes)) n ∙ e)
-
--- texts of one length that stand at one place are equal
-pub same_standing : (bytes : List ℕ) (place : ℕ) (a b : List ℕ) → length a ≡ length b → Stands bytes place a → Stands bytes place b → a ≡ b
-same_standing bytes place a b l s t = sym s ∙ ap (λ (k : ℕ). take k (drop place bytes)) l ∙ t

@@ -5,7 +5,7 @@ use Rattle.reckoning.specs.Outcomes.{summed}
 use Rattle.reckoning.specs.Rounding.{pair}
 use Rattle.book.specs.Figures.{numbered, mixed, told_in}
 use Rattle.book.proofs.Lookups.{told_lower, told_upper, bounds_told, mixed_ranged}
-use Rattle.book.proofs.Mixtures.{shared_bound, turn, turn_bound, turn_end}
+use Rattle.book.proofs.Mixtures.{turn, turn_bound, turn_end}
 use Rattle.book.proofs.Strides.{ends_within}
 use Rattle.book.proofs.telling.mix.Goals as goal
 
