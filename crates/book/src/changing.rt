@@ -15,11 +15,11 @@ use crate::places::Lent;
 use crate::refusal::Refusal;
 use reckoning::reckoning::Reckoning;
 
-// What an accepted strike answers.
+// What an accepted strike answers: a type of its own, so that it can tell more later.
 #[derive(Clone, Copy, Debug, PartialEq, Eq)]
 pub struct Struck;
 
-// What an accepted re-rate answers.
+// What an accepted re-rate answers, likewise.
 #[derive(Clone, Copy, Debug, PartialEq, Eq)]
 pub struct Rerated;
 

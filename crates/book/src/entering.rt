@@ -23,7 +23,7 @@ use reckoning::loss::Loss;
 use reckoning::rate::Rate;
 use reckoning::reckoning::Reckoning;
 
-// What an accepted enter answers.
+// What an accepted enter answers: a type of its own, so that it can tell more later.
 #[derive(Clone, Copy, Debug, PartialEq, Eq)]
 pub struct Entered;
 

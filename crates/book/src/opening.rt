@@ -17,7 +17,7 @@ use crate::shown::Handed;
 use reckoning::reckoning::Reckoning;
 use std::alloc::{AllocError, Global};
 
-// What an accepted open answers.
+// What an accepted open answers: a type of its own, so that it can tell more later.
 #[derive(Clone, Copy, Debug, PartialEq, Eq)]
 pub struct Opened;
 

@@ -19,7 +19,7 @@ use lines::line::read_line;
 use lines::trailer::{Trailer, read_trailer};
 use reckoning::reckoning::Reckoning;
 
-// What an accepted read answers.
+// What an accepted read answers: a type of its own, so that it can tell more later.
 #[derive(Clone, Copy, Debug, PartialEq, Eq)]
 pub struct FileRead;
 
@@ -27,6 +27,7 @@ pub struct FileRead;
 fn share_line(body: &[u8], place: usize) -> Result<(u32, usize), LineFault>
     ensures { ReadsShare body.now place result }
 {
+    // one number, since a line is read into a slice that is there
     let mut share = [0u32; 1];
     let read = read_line(body, place, b'S', &mut share);
     let next = read.map_err(|wrong| LineFault::Share(place, wrong))?;
