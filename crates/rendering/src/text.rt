@@ -4,7 +4,7 @@ ghost use Rattle.arrayvec.specs.ArrayVec.{array_vec_len};
 ghost use Rattle.rendering.specs.Printed.{level_text, refusal_text};
 ghost use Rattle.rendering.specs.Told.{Tells, number_of};
 
-use crate::line::{Line, put_bytes, put_number};
+use crate::line::Line;
 
 // The bytes handed over are too few for the text.
 #[derive(Clone, Copy, Debug, PartialEq, Drop)]
@@ -25,9 +25,9 @@ pub fn level_line(out: &mut [u8], level: u32, lower: u64, upper: u64) -> Result<
     ensures enough { 64 ≤ length out.old → IsOk result }
 {
     let mut line = Line::new();
-    put_field(&mut line, u64::from(level), b" ");
-    put_field(&mut line, lower, b" ");
-    put_field(&mut line, upper, b"\n");
+    line.put_field(u64::from(level), b" ");
+    line.put_field(lower, b" ");
+    line.put_field(upper, b"\n");
     tell(out, line.as_slice())
 }
 
@@ -37,20 +37,10 @@ pub fn refusal_line(out: &mut [u8], number: u32, place: usize) -> Result<usize, 
     ensures enough { 64 ≤ length out.old → IsOk result }
 {
     let mut line = Line::new();
-    put_bytes(&mut line, b"refused ");
-    put_field(&mut line, u64::from(number), b" at ");
-    put_field(&mut line, place as u64, b"\n");
+    line.put(b"refused ");
+    line.put_field(u64::from(number), b" at ");
+    line.put_field(place as u64, b"\n");
     tell(out, line.as_slice())
-}
-
-// Appends a number and the bytes that follow it.
-fn put_field(line: &mut Line, n: u64, next: &[u8])
-    requires room { array_vec_len line.old + (20 + length next.now) ≤ 256 }
-    ensures after { line.new.items ≡ line.old.items ++ (decimal n ++ next.now) }
-    ensures longer { array_vec_len line.new ≤ array_vec_len line.old + (20 + length next.now) }
-{
-    put_number(line, n);
-    put_bytes(line, next);
 }
 
 // Puts a text at the front of the bytes, and answers its length.

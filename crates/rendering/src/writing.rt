@@ -9,7 +9,7 @@ ghost use Rattle.lines.specs.Places.{written};
 ghost use Rattle.lines.specs.Texts.{line_text, trailer_text};
 ghost use Rattle.rendering.specs.Told.{Tells};
 
-use crate::line::{Line, put_spaced, put_spaced_digits};
+use crate::line::Line;
 use crate::text::TooFew;
 use arrayvec::ArrayVec;
 use book::book::Book;
@@ -63,8 +63,8 @@ trait Lined {
     ghost text: { ℕ → Self → List ℕ };
 
     fn line(&self, scenarios: usize) -> Line
-        ensures text { result.items ≡ text scenarios self.now }
-        ensures short { array_vec_len result ≤ 256 };
+        ensures text { result.bytes.items ≡ text scenarios self.now }
+        ensures short { array_vec_len result.bytes ≤ 256 };
 }
 
 // A share has an S line.
@@ -92,7 +92,10 @@ fn lines_length<T: Lined>(items: &[T], scenarios: usize) -> usize
     ensures value { result ≡ length (flat_map (T.text scenarios) items.now) }
     ensures bound { result ≤ 65536 }
 {
-    items.iter().map(|item| item.line(scenarios).len()).sum()
+    items
+        .iter()
+        .map(|item| item.line(scenarios).as_slice().len())
+        .sum()
 }
 
 // Puts the lines of these in turn, and answers the place behind them.
@@ -110,11 +113,11 @@ fn put_lines<T: Lined>(out: &mut [u8], from: usize, items: &[T], scenarios: usiz
 
 // Puts a line, and answers the place behind it. The place goes along: a struct of both would have to say in each clause whose bytes it holds.
 fn put_line(out: &mut [u8], from: usize, line: &Line) -> usize
-    requires fits { from + array_vec_len line.now ≤ length out.old }
-    ensures value { result ≡ from + array_vec_len line.now }
-    ensures after { out.new ≡ written out.old from line.now.items }
+    requires fits { from + array_vec_len line.now.bytes ≤ length out.old }
+    ensures value { result ≡ from + array_vec_len line.now.bytes }
+    ensures after { out.new ≡ written out.old from line.now.bytes.items }
 {
-    let end = from + line.len();
+    let end = from + line.as_slice().len();
     out[from..end].copy_from_slice(line.as_slice());
     end
 }
@@ -135,29 +138,29 @@ fn numbers_of(contract: &Contract, scenarios: usize) -> ArrayVec<u32, 10>
 // A line of a letter and at most ten numbers.
 fn line_of(letter: u8, numbers: &[u32]) -> Line
     requires few { length numbers.now ≤ 10 }
-    ensures text { result.items ≡ line_text letter numbers.now }
-    ensures short { array_vec_len result ≤ 256 }
+    ensures text { result.bytes.items ≡ line_text letter numbers.now }
+    ensures short { array_vec_len result.bytes ≤ 256 }
 {
     let mut line = Line::new();
-    line.push(letter);
+    line.put_byte(letter);
     for n in numbers {
-        put_spaced(&mut line, u64::from(*n));
+        line.put_spaced(u64::from(*n));
     }
-    line.push(b'\n');
+    line.put_byte(b'\n');
     line
 }
 
 // The line of a trailer.
 fn trailer_line(trailer: Trailer) -> Line
-    ensures text { result.items ≡ trailer_text trailer.ceiling trailer.scenarios trailer.contracts trailer.place }
-    ensures short { array_vec_len result ≡ 18 }
+    ensures text { result.bytes.items ≡ trailer_text trailer.ceiling trailer.scenarios trailer.contracts trailer.place }
+    ensures short { array_vec_len result.bytes ≡ 18 }
 {
     let mut line = Line::new();
-    line.push(b'T');
-    put_spaced_digits(&mut line, 5, u64::from(trailer.ceiling));
-    put_spaced_digits(&mut line, 1, trailer.scenarios as u64);
-    put_spaced_digits(&mut line, 3, trailer.contracts as u64);
-    put_spaced_digits(&mut line, 3, trailer.place as u64);
-    line.push(b'\n');
+    line.put_byte(b'T');
+    line.put_spaced_digits(5, u64::from(trailer.ceiling));
+    line.put_spaced_digits(1, trailer.scenarios as u64);
+    line.put_spaced_digits(3, trailer.contracts as u64);
+    line.put_spaced_digits(3, trailer.place as u64);
+    line.put_byte(b'\n');
     line
 }

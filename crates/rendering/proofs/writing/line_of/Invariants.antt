@@ -4,6 +4,6 @@ use Rattle.rendering.proofs.writing.line_of.Given as goal
 
 abbrev pub invariant-loop-n : goal.invariant-loop-n
 invariant-loop-n l = record {
-  text : l.line.items ≡ l.letter ∷ numbers_text (take l.n-index l.numbers);
-  short : length l.line.items ≤ 1 + 21 * l.n-index;
+  text : l.line.bytes.items ≡ l.letter ∷ numbers_text (take l.n-index l.numbers);
+  short : length l.line.bytes.items ≤ 1 + 21 * l.n-index;
 }
