@@ -41,16 +41,12 @@ same_count None (Some j) = false
 same_count (Some i) None = false
 same_count (Some i) (Some j) = i == j
 
--- two levels found, none for beyond
-abbrev pub same_found : Option ℕ → Option ℕ → Bool
-same_found a b = same_count a b
-
 -- whether the book has the figure
 abbrev pub has_figure : Plain → Figure → Bool
 has_figure p (keeps levels) = same_numbers (kept p.ceiling (losses p)) levels
 has_figure p (chance_is s k a b) = (chance p s k).lower == a && (chance p s k).upper == b
 has_figure p (claims_are s k n) = same_count (value counts p s k) n
-has_figure p (reserve_is c low high) = same_found (reserve_low p c) low && same_found (reserve_high p c) high
+has_figure p (reserve_is c low high) = same_count (reserve_low p c) low && same_count (reserve_high p c) high
 has_figure p (layer_is d t a b) = layer_low p d t == a && layer_high p d t == b
 
 -- whether it has all of its figures

@@ -38,7 +38,7 @@ fn carry_out(rt: &HostRuntime) -> anyhow::Result<()> {
     }
 }
 
-// The answers of a script, one a line. All memory is taken before the run.
+// The answers of a script, one a line. All memory that the run needs is taken before it.
 fn answers(heap: Global, script: &Script) -> Result<Vec<u8>, AllocError> {
     let mut book = Book::new(heap)?;
     let mut levels: Vec<u32> = vec![in heap; 0; script.places.levels]?;
