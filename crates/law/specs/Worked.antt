@@ -2,7 +2,7 @@
 use Rattle.std.specs.Prelude.{◌≡◌, ℕ, ◌*◌, Bool, true, false, ◌&&◌, List, [], ◌∷◌, Some, None, Option, ◌==◌}
 use Rattle.std.specs.Str.{bytes_eq}
 use Rattle.reckoning.specs.Counting.{counts}
-use Rattle.book.specs.Plain.{Entry, Plain, entry, losses}
+use Rattle.book.specs.Plain.{Entry, Plain, entry, losses, without}
 use Rattle.book.specs.Levels.{kept}
 use Rattle.book.specs.Values.{value}
 use Rattle.book.specs.Figures.{chance}
@@ -72,20 +72,24 @@ both_are k n = chance_is 1 k (n * 1000000000) (n * 1000000000)
 abbrev pub none_entered : Row
 none_entered = with_figures (one_scenario []) (both_are 0 1000 ∷ both_are 6 1000 ∷ [])
 
+-- the contracts of the worked book
+abbrev pub three : List Entry
+three = entry 11 3 (200000 ∷ []) ∷ entry 12 2 (500000 ∷ []) ∷ entry 13 2 (100000 ∷ []) ∷ []
+
 -- with every kind of figure
 abbrev pub three_entered : Row
 three_entered =
-    with_figures (one_scenario (entry 11 3 (200000 ∷ []) ∷ entry 12 2 (500000 ∷ []) ∷ entry 13 2 (100000 ∷ []) ∷ []))
+    with_figures (one_scenario three)
     (keeps (0 ∷ 2 ∷ 3 ∷ 4 ∷ 5 ∷ []) ∷
     both_are 0 360 ∷ both_are 2 760 ∷ both_are 3 850 ∷ both_are 4 890 ∷ both_are 5 990 ∷
     claims_are 1 0 (Some 0) ∷ claims_are 1 2 (Some 1) ∷ claims_are 1 3 (Some 1) ∷ claims_are 1 4 (Some 2) ∷ claims_are 1 5 (Some 2) ∷
     reserve_is 850000 (Some 3) (Some 3) ∷ reserve_is 850001 (Some 4) (Some 4) ∷ reserve_is 990001 None None ∷
     layer_is 2 5 500000000000 500000000000 ∷ [])
 
--- the same without contract 11
+-- the same after a strike of 11
 abbrev pub one_struck : Row
 one_struck =
-    with_figures (one_scenario (entry 12 2 (500000 ∷ []) ∷ entry 13 2 (100000 ∷ []) ∷ []))
+    with_figures (one_scenario (without 11 three))
     (keeps (0 ∷ 2 ∷ 4 ∷ []) ∷ both_are 0 450 ∷ both_are 2 950 ∷ both_are 4 1000 ∷ [])
 
 -- where the bounds are a grain apart

@@ -1,7 +1,7 @@
 // Why a file is refused, and where.
 ghost use Rattle.std.specs.Prelude.{◌≡◌, Some};
 ghost use Rattle.tariff.specs.declared.refusal.FileFault.TheVariants.{Line, Book};
-ghost use Rattle.tariff.specs.Refusals.{telling, refused_text};
+ghost use Rattle.tariff.specs.Refusals.{line_telling, book_telling, telling, refused_text};
 
 use book::refusal::Refusal;
 use lines::fault::Malformed;
@@ -39,7 +39,7 @@ pub enum FileFault {
 }
 
 impl From<LineFault> for FileFault {
-    ghost from_gives = { λ e r. r ≡ Line e };
+    ghost from_gives = { λ e r. (r ≡ Line e) × (telling r ≡ line_telling e) };
 
     fn from(e: LineFault) -> FileFault {
         FileFault::Line(e)
@@ -47,7 +47,7 @@ impl From<LineFault> for FileFault {
 }
 
 impl From<BookFault> for FileFault {
-    ghost from_gives = { λ e r. r ≡ Book e };
+    ghost from_gives = { λ e r. (r ≡ Book e) × (telling r ≡ book_telling e) };
 
     fn from(e: BookFault) -> FileFault {
         FileFault::Book(e)

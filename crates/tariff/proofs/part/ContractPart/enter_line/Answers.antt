@@ -35,7 +35,7 @@ returns-in_err-map_err-clause-enters g c =
     let m = mapped_err _ told (λ e f is. search rules) c.enter.result c.map_err.result _ c.map_err.ensures.cases c.in_err-map_err.was in
     let made = rw m.1 at c.enter.ensures in
     let p = err_from_is_err_and c.from_residual-in_err-map_err.result c.from_residual-in_err-map_err.ensures.1 in
-    λ holds. rw (p.1, p.2, m.2) (
+    λ holds. rw (p.1, p.2.0, m.2) (
       entry_from ns,
       (c.in_ok-next.next, line, one_declined g.R.Reckoning.operations h (get_or ns 0 0) (get_or ns 1 0) _ (drop 2 ns) (take_rest ns 2) x y place (told m.0) (made.holds holds).answer refl made.unchanged),
     )
