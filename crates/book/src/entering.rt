@@ -43,6 +43,7 @@ pub(crate) fn read_rates(given: &[u32], scenarios: usize) -> Option<[Rate; 8]>
         return None;
     }
     let mut rates = [Rate::never(); 8];
+    // by index: of what a zip lends out by iter_mut no element is known after it
     for (i, millionths) in given.iter().enumerate() {
         rates[i] = Rate::new(*millionths)?;
     }

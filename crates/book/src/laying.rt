@@ -1,17 +1,17 @@
 // Laying a book out in its places: the book without contracts, and one contract more.
-// The places are taken apart here: extend reads levels while it lends out values, which the check does not follow through one struct.
 ghost use Rattle.std.specs.Prelude.{◌≡◌, ℕ, ◌+◌, ◌*◌, ◌<◌, ◌≤◌, List, [], ◌∷◌, length, drop, IfSome, MatchOption, slice_set};
 ghost use Rattle.book.specs.Anyhow.{ExtendsOver};
 ghost use Rattle.book.specs.Merging.{row_of};
 ghost use Rattle.book.specs.Laid.{Outside, Lays, Framed, Extends};
 ghost use Rattle.book.specs.Entries.{entry_of};
-ghost use Rattle.book.specs.Places.{places_of};
+ghost use Rattle.book.specs.Places.{places_of, held, handed_of, HasRows, SamePlaces};
 ghost use Rattle.book.specs.Plain.{Plain, opened};
 ghost use Rattle.book.specs.Rebuilt.{Begun};
 
 use crate::contract::Contract;
 use crate::frame::Frame;
 use crate::merging::{Merge, merge_levels, merged_len};
+use crate::places::Lent;
 use crate::valuing::merge_rows;
 use reckoning::bounds::Bounds;
 use reckoning::grains::Grains;
@@ -23,31 +23,28 @@ fn begin_rows<R: Reckoning>(scenarios: usize, places: usize, rows: &mut [R::Valu
     ensures rest { drop (scenarios * places) rows.new ≡ drop (scenarios * places) rows.old }
     ensures each { (s : ℕ) → s < scenarios → row_of places s rows.new ≡ slice_set (row_of places s rows.old) 0 R.Reckoning.operations.whole }
 {
-    // by index: of what is written through chunks_mut no proof knows the values
+    // by index: tried through chunks_mut, where no proof knows the values that were written
     for s in 0..scenarios {
         rows[s * places] = R::whole();
     }
 }
 
 // Lays out the book without contracts: level 0 alone, with whole in every scenario.
-pub(crate) fn begin<R: Reckoning>(
-    scenarios: usize,
-    levels: &mut [u32],
-    bounds: &mut [Grains],
-    values: &mut [R::Value],
-)
-    requires { (0 < length levels.old) × ((scenarios * length levels.old ≤ length bounds.old) × (scenarios * length levels.old ≤ length values.old)) }
-    ensures outside { Outside scenarios (length levels.old) 1 (places_of levels.old bounds.old values.old) (places_of levels.new bounds.new values.new) }
-    ensures begun { Begun R.Reckoning.operations scenarios (length levels.old) (places_of levels.old bounds.old values.old) (places_of levels.new bounds.new values.new) }
-    ensures lays { (ceiling : ℕ) (shares : List ℕ) → length shares ≡ scenarios → Lays R.Reckoning.operations (opened (length levels.old) ceiling shares) 1 (places_of levels.new bounds.new values.new) }
+pub(crate) fn begin<R: Reckoning>(scenarios: usize, places: &mut Lent<'_, R::Value>)
+    requires some { 0 < length places.old.levels.now }
+    requires rows { HasRows scenarios (length places.old.levels.now) (handed_of (held places.old)) }
+    ensures outside { Outside scenarios (length places.old.levels.now) 1 (held places.old) (held places.new) }
+    ensures begun { Begun R.Reckoning.operations scenarios (length places.old.levels.now) (held places.old) (held places.new) }
+    ensures lent { SamePlaces places.old places.new }
+    ensures lays { (ceiling : ℕ) (shares : List ℕ) → length shares ≡ scenarios → Lays R.Reckoning.operations (opened (length places.old.levels.now) ceiling shares) 1 (held places.new) }
 {
-    let places = levels.len();
-    begin_rows::<Bounds>(scenarios, places, bounds);
-    begin_rows::<R>(scenarios, places, values);
-    levels[0] = 0;
+    let each = places.levels.len();
+    begin_rows::<Bounds>(scenarios, each, places.bounds);
+    begin_rows::<R>(scenarios, each, places.values);
+    places.levels[0] = 0;
 }
 
-// Lays one contract more over those that the places hold, and answers how many levels are kept then; none, and nothing is written, where the level places are too few.
+// Lays one contract more over those that the places hold, and answers how many levels are kept then; none, and nothing is written, where the level places are too few. The places are taken apart: levels are read while values are lent out, which the check does not follow through one struct.
 pub(crate) fn extend<R: Reckoning>(
     frame: Frame,
     contract: &Contract,

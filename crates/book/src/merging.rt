@@ -5,7 +5,7 @@ ghost use Rattle.book.specs.Turned.{turns, levels_turned, merge_of, LeftOf, Turn
 
 use std::cmp::Ordering;
 
-// What is left to merge: so many own levels, and so many of those that the loss moves up.
+// What is left to merge: so many own levels, and so many of those that the loss moves up. The levels go along beside it, since merge_levels writes them.
 #[derive(Clone, Copy)]
 pub(crate) struct Merge {
     pub(crate) own: usize,
@@ -84,7 +84,7 @@ pub(crate) fn merged_len(levels: &[u32], merge: Merge) -> usize
     ensures turns { result ≡ turns (2 * merge.own) levels.now merge.own merge.moved merge.loss }
     ensures grows { merge.own ≤ result }
 {
-    // counted in a loop: a turn gives what is left, and the levels are not laid out anywhere
+    // counted in a loop: a turn gives what is left, and an iterator would have to keep the levels beside it
     let mut left = merge;
     let mut n = 0;
     while let Some((_, rest)) = left.turn(levels) {

@@ -90,7 +90,7 @@ impl Book {
         if places_short(places.handed(), scenarios) {
             return Err(Refusal::Places);
         }
-        begin::<R>(scenarios, places.levels, places.bounds, places.values);
+        begin::<R>(scenarios, places);
         self.contracts.clear();
         self.shares = shares;
         self.ceiling = ceiling;

@@ -30,7 +30,7 @@ fn lay_all<R: Reckoning>(
     ensures over { (p : Plain) → Framed p frame → p.contracts ≡ map (entry_of frame.scenarios) contracts.now → RebuiltOver R.Reckoning.operations p result (held places.old) (held places.new) }
     ensures lays { (p : Plain) → Framed p frame → p.contracts ≡ map (entry_of frame.scenarios) contracts.now → Fits p → Lays R.Reckoning.operations p result (held places.new) }
 {
-    begin::<R>(frame.scenarios, places.levels, places.bounds, places.values);
+    begin::<R>(frame.scenarios, places);
     let mut len = 1;
     for contract in contracts {
         // each field by name: a struct that keeps facts has no ..frame

@@ -77,7 +77,7 @@ impl Book {
         self.kept
     }
 
-    // The value of a scenario's row at a level, where the places fit the book.
+    // The value of a scenario's row at a level, where the places fit the book. That they do is asked of each of three functions: a struct of book and places would be made anew in every call.
     fn row_value<R: Reckoning>(
         &self,
         scenario: u32,

@@ -50,7 +50,7 @@ pub(crate) fn merge_rows<R: Reckoning>(
     ensures outside { RowsOutside (length rates.now) places merged rows.old rows.new }
     ensures turned { (s : ℕ) → s < length rates.now → row_of places s rows.new ≡ row_turned R.Reckoning.operations levels.now merge.loss (slice_index (millionths_of rates.now) s) merged (row_of places s rows.old) merge.own merge.moved }
 {
-    // by index: of what is written through chunks_mut no proof knows the values
+    // by index: tried through chunks_mut, where no proof knows the values that were written
     for (s, rate) in rates.iter().enumerate() {
         let at = s * places;
         merge_row::<R>(levels, merge, merged, *rate, &mut rows[at..at + places]);

@@ -27,7 +27,7 @@ const VALUES: usize = 2048;
 // Enough bytes for each line of a statement, which the public calls put into bytes that they are handed.
 const LINE: usize = 64;
 
-// A statement, with its bytes: a table of levels, or a refusal.
+// A statement, with its bytes: a table of levels, or a refusal. It is no Result: a refusal is printed as the table is, and what fails is only the memory.
 #[derive(Drop)]
 pub enum Statement {
     Table(Vec<u8>),

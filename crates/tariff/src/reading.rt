@@ -87,7 +87,7 @@ impl ContractPart<'_> {
         Ok(lines)
     }
 
-    // Enters the contract of the C line at a place, and answers the place behind it.
+    // Enters the contract of the C line at a place, and answers the place behind it. That the places fit the book goes from open to the last line as a premise, since book and places are lent apart.
     fn enter_line<R: Reckoning>(
         &self,
         place: usize,

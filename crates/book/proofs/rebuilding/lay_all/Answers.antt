@@ -12,7 +12,7 @@ use Rattle.book.proofs.rebuilding.lay_all.Goals as goal
 pub loop-contract-init : goal.loop-contract-init
 loop-contract-init g c =
     let f = c.args.frame in
-    let x = places_of c.begin.new.levels c.begin.new.bounds c.begin.new.values in (
+    let x = held c.begin.new.places in (
       omega arith,
       omega arith,
       outside_same f.scenarios f.places 1 x,
@@ -27,7 +27,7 @@ returns-in_default g c =
     let n = c.loop-contract.len in
     let inv = c.loop-contract.invariant in
     let old = held c.args.places.now in
-    let begun = places_of c.begin.new.levels c.begin.new.bounds c.begin.new.values in
+    let begun = held c.begin.new.places in
     let mid = held c.loop-contract.places in
     let q : length c.args.places.now.levels.now ≡ f.places = c.requires.levels in
     let first = subst (λ (k : ℕ). Outside f.scenarios k 1 old begun) q c.begin.ensures.outside in
@@ -53,7 +53,7 @@ loop-contract-preserved g c =
     let m = c.loop-contract.len in
     let n = c.in-Some.more in
     let inv = c.loop-contract.invariant in
-    let begun = places_of c.begin.new.levels c.begin.new.bounds c.begin.new.values in
+    let begun = held c.begin.new.places in
     let mid = held c.loop-contract.places in
     let new = places_of c.extend.new.levels c.extend.new.bounds c.extend.new.values in
     let grows : m ≤ n = c.in-Some.ensures.grows in (
@@ -75,7 +75,7 @@ returns g c =
     let n = c.loop-contract.len in
     let inv = c.loop-contract.invariant in
     let old = held c.args.places.now in
-    let begun = places_of c.begin.new.levels c.begin.new.bounds c.begin.new.values in
+    let begun = held c.begin.new.places in
     let new = held c.loop-contract.places in
     let q : length c.args.places.now.levels.now ≡ f.places = c.requires.levels in
     let first = subst (λ (k : ℕ). Outside f.scenarios k 1 old begun) q c.begin.ensures.outside in
