@@ -5,5 +5,6 @@ use stored::answering::Statements;
 use stored::comparing::compare;
 
 fn main(rt: HostRuntime) -> anyhow::Result<()> {
-    compare::<Statements>(&rt, "", "files")
+    compare::<Statements>(&rt, "", "files")?;
+    Ok(())
 }

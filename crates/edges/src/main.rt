@@ -18,5 +18,6 @@ impl Answering for Scripts {
 
 fn main(rt: HostRuntime) -> anyhow::Result<()> {
     compare::<Statements>(&rt, "", "files")?;
-    compare::<Scripts>(&rt, "calls/", "scripts")
+    compare::<Scripts>(&rt, "calls/", "scripts")?;
+    Ok(())
 }

@@ -1,23 +1,62 @@
 // Running stored cases.
+ghost use Rattle.std.specs.Prelude.{◌≡◌, ◌+◌, ◌≤◌, min, cond, IfOk};
+
 use crate::answering::Answering;
 use std::fs;
 
-// Runs the cases of a folder, and prints how many got the answer that is stored. Each line of the folder's file `index` names one: NAME.in is what is run, NAME.out its answer.
-pub fn compare<A: Answering>(rt: &HostRuntime, folder: &str, plural: &str) -> anyhow::Result<()> {
+// How many cases were run, and how many got the answer that is stored.
+#[derive(Clone, Copy, Debug, PartialEq, Eq)]
+pub struct Tally {
+    pub cases: usize,
+    pub agreed: usize,
+    ghost no_more: { agreed ≤ cases },
+}
+
+impl Tally {
+    // The tally of no cases.
+    pub fn none() -> Tally
+        ensures cases { result.cases ≡ 0 }
+        ensures agreed { result.agreed ≡ 0 }
+    {
+        Tally {
+            cases: 0,
+            agreed: 0,
+        }
+    }
+
+    // The tally with one case more, which agreed or did not.
+    pub fn with(self, agrees: bool) -> Tally
+        ensures cases { result.cases ≡ min (self.cases + 1) 18446744073709551615 }
+        ensures agreed { result.agreed ≡ cond agrees (min (self.agreed + 1) 18446744073709551615) self.agreed }
+    {
+        Tally {
+            cases: self.cases.saturating_add(1),
+            agreed: if agrees {
+                self.agreed.saturating_add(1)
+            } else {
+                self.agreed
+            },
+        }
+    }
+}
+
+// Runs the cases of a folder, prints those that differ and how many agree, and tells that. Each line of the folder's file `index` names a case: NAME.in is what is run, NAME.out its answer.
+pub fn compare<A: Answering>(rt: &HostRuntime, folder: &str, plural: &str) -> anyhow::Result<Tally>
+    ensures within { IfOk result (λ tally. tally.agreed ≤ tally.cases) }
+{
     let path = format!(in rt.alloc(); "{folder}index")?;
     let index = fs::read_to_string(rt, path.as_str())?;
-    // Counted in a loop, since a case that differs is printed, and one that cannot be run ends it.
-    let mut agreed: usize = 0;
+    // In a loop, since a case that differs is printed, and one that cannot be run ends it.
+    let mut tally = Tally::none();
     for name in index.as_str().lines() {
-        if agrees::<A>(rt, folder, name)? {
-            agreed = agreed.saturating_add(1);
-        } else {
+        let agrees = agrees::<A>(rt, folder, name)?;
+        tally = tally.with(agrees);
+        if !agrees {
             println!(rt; "{folder}{name} differs")?;
         }
     }
-    let cases = index.as_str().lines().count();
-    println!(rt; "{agreed} of {cases} {plural} agree")?;
-    Ok(())
+    println!(rt; "{} of {} {plural} agree", tally.agreed, tally.cases)?;
+    Ok(tally)
 }
 
 // Whether the case of that name gets the answer that is stored.
