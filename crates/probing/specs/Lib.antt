@@ -1,1 +1,2 @@
 pub mod Wrongs
+pub mod Halts

@@ -1,6 +1,7 @@
 // Why a line gets no answer.
 ghost use Rattle.std.specs.Prelude.{◌≡◌, Some};
 ghost use Rattle.probing.specs.declared.wrong.Wrong.TheVariants.{Number};
+ghost use Rattle.probing.specs.Halts.{halted};
 ghost use Rattle.probing.specs.Wrongs.{wrong_said};
 ghost use Rattle.probing.specs.declared.wrong.Halt.TheVariants.{NoCall, Memory};
 
@@ -74,6 +75,8 @@ impl From<AllocError> for Halt {
 }
 
 impl From<NoNumbers> for Halt {
+    ghost from_gives = { λ e r. r ≡ halted e };
+
     fn from(e: NoNumbers) -> Halt {
         match e {
             NoNumbers::NotANumber => Halt::NoCall(Wrong::Number),
