@@ -1,6 +1,7 @@
 // Runs a script of calls on a book from standard input, and prints one answer a line.
 #![tactic(auto)]
 
+mod asked;
 mod saying;
 mod script;
 
@@ -12,7 +13,7 @@ use law::running::run;
 use reckoning::claims::Claims;
 use reckoning::grains::Grains;
 use script::{Halt, Script, read_script};
-use scripts::input::{end_at, read_script_text};
+use scripts::input::{end_at, script_text};
 use std::alloc::{AllocError, Global};
 use std::io::Write;
 
@@ -26,7 +27,7 @@ fn main(rt: HostRuntime) -> anyhow::Result<()> {
 // Prints the answers, or what is wrong with the script.
 fn carry_out(rt: &HostRuntime) -> anyhow::Result<()> {
     let heap = rt.alloc();
-    let text = read_script_text(rt, NO_SCRIPT)?;
+    let text = script_text(rt, NO_SCRIPT)?;
     match read_script(heap, text.as_str()) {
         Ok(script) => {
             let told = answers(heap, &script)?;

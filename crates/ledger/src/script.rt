@@ -1,13 +1,13 @@
 // A script: how many places there are, the opening, and the calls.
-ghost use Rattle.std.specs.Prelude.{◌≡◌, true, vec_len};
-ghost use Rattle.scripts.specs.Asked.{takes};
+ghost use Rattle.std.specs.Prelude.{◌≡◌, ◌≤◌, vec_len};
 ghost use Rattle.ledger.specs.declared.script.Halt.TheVariants.{NoScript, Memory};
 
+use crate::asked::AskedCalls;
 use book::shown::Handed;
 use law::call::Call;
 use scripts::input::Fault;
-use scripts::numbers::{NoNumbers, read_numbers};
-use scripts::verb::{Verb, call_of, verb_of};
+use scripts::numbers::read_numbers;
+use scripts::verb::{Verb, verb_of};
 use std::alloc::{AllocError, Global};
 
 // A line that is wrong.
@@ -43,29 +43,18 @@ struct Line {
     numbers: Vec<u32>,
 }
 
-// A call of a script by its verb and its numbers, as many as the verb takes.
-#[derive(Drop)]
-struct Asked {
-    verb: Verb,
-    numbers: Vec<u32>,
-    ghost taken: { takes verb (vec_len numbers) ≡ true },
-}
-
 #[derive(Drop)]
 pub(crate) struct Script {
     pub(crate) places: Handed,
     pub(crate) ceiling: u32,
     pub(crate) shares: Vec<u32>,
-    asked: Vec<Asked>,
+    asked: AskedCalls,
 }
 
 impl Script {
     // The calls in their order.
     pub(crate) fn calls(&self, heap: Global) -> Result<Vec<Call<'_>>, AllocError> {
-        self.asked
-            .iter()
-            .map(|asked| call_of(asked.verb, &asked.numbers[..]).unwrap())
-            .collect(heap)
+        self.asked.calls(heap)
     }
 }
 
@@ -86,36 +75,55 @@ fn kind_of(first: &str, second: &str) -> Option<Kind> {
     }
 }
 
-// A line, with its kind and its numbers.
-fn read_line(heap: Global, before: usize, line: &str) -> Result<Line, Halt> {
+// A line's kind, and how many words say it.
+fn read_kind(before: usize, line: &str) -> Result<(Kind, usize), Halt> {
     let mut words = line.split(' ');
     let first = words.next().unwrap_or("");
     let second = words.next().unwrap_or("");
-    let Some(kind) = kind_of(first, second) else {
-        return Err(wrong_at(before, "there is no such call"));
-    };
-    let skip = match kind {
-        Kind::Call(verb) => verb.words(),
-        Kind::Places | Kind::Open => 1,
-    };
-    match read_numbers(heap, line, skip) {
-        Ok(numbers) => Ok(Line { kind, numbers }),
-        Err(NoNumbers::NotANumber) => {
-            Err(wrong_at(before, "a word is no number from 0 to 4294967295"))
-        }
-        Err(NoNumbers::NoMemory(e)) => Err(Halt::Memory(e)),
+    match kind_of(first, second) {
+        Some(Kind::Call(verb)) => Ok((Kind::Call(verb), verb.words())),
+        Some(kind) => Ok((kind, 1)),
+        None => Err(wrong_at(before, "there is no such call")),
     }
 }
 
-// The call that a line behind the opening asks for.
-fn read_asked(heap: Global, before: usize, line: &str) -> Result<Asked, Halt> {
-    let Line { kind, numbers } = read_line(heap, before, line)?;
-    match kind {
-        Kind::Call(verb) if call_of(verb, &numbers[..]).is_some() => Ok(Asked { verb, numbers }),
-        _ => Err(wrong_at(
-            before,
-            "this is no call, or it has too few or too many numbers",
-        )),
+// Appends the numbers of a line's words past the first `skip`.
+fn append_numbers(
+    before: usize,
+    line: &str,
+    skip: usize,
+    numbers: &mut Vec<u32>,
+) -> Result<(), Halt>
+    ensures grows { vec_len numbers.old ≤ vec_len numbers.new }
+{
+    if read_numbers(line, skip, numbers)? {
+        Ok(())
+    } else {
+        Err(wrong_at(before, "a word is no number from 0 to 4294967295"))
+    }
+}
+
+// A line, with its kind and its numbers.
+fn read_line(heap: Global, before: usize, line: &str) -> Result<Line, Halt> {
+    let (kind, words) = read_kind(before, line)?;
+    let mut numbers = Vec::new(heap);
+    append_numbers(before, line, words, &mut numbers)?;
+    Ok(Line { kind, numbers })
+}
+
+impl AskedCalls {
+    // Appends the call that a line behind the opening asks for.
+    fn read(&mut self, before: usize, line: &str) -> Result<(), Halt> {
+        let (kind, words) = read_kind(before, line)?;
+        let from = self.numbers.len();
+        append_numbers(before, line, words, &mut self.numbers)?;
+        match kind {
+            Kind::Call(verb) if self.add(verb, from)? => Ok(()),
+            _ => Err(wrong_at(
+                before,
+                "this is no call, or it has too few or too many numbers",
+            )),
+        }
     }
 }
 
@@ -160,9 +168,10 @@ pub(crate) fn read_script(heap: Global, text: &str) -> Result<Script, Halt> {
         return Err(wrong_at(1, "a script begins with places and open"));
     };
     let (ceiling, shares) = read_opening(heap, second)?;
-    let asked = lines
-        .map(|(before, line)| read_asked(heap, before, line))
-        .try_collect(heap)?;
+    let mut asked = AskedCalls::new(heap);
+    for (before, line) in lines {
+        asked.read(before, line)?;
+    }
     Ok(Script {
         places,
         ceiling,

@@ -2,7 +2,7 @@
 #![tactic(auto)]
 
 use probing::running::run_script;
-use scripts::input::{Fault, end_at, read_script_text};
+use scripts::input::{Fault, end_at, script_text};
 use std::io::Write;
 
 // The error in which a script ends that has a line which is no call.
@@ -14,7 +14,7 @@ fn main(rt: HostRuntime) -> anyhow::Result<()> {
 
 // Prints the answers, and what is wrong with the first line that is no call.
 fn carry_out(rt: &HostRuntime) -> anyhow::Result<()> {
-    let script = read_script_text(rt, NO_CALL)?;
+    let script = script_text(rt, NO_CALL)?;
     if script.is_empty() {
         let what = "there is no script";
         return end_at(rt, &Fault { line: 1, what }, NO_CALL);

@@ -7,7 +7,7 @@ use law::call::Answer;
 use law::running::step;
 use reckoning::claims::Claims;
 use rendering::writing::write;
-use scripts::numbers::read_numbers;
+use scripts::numbers::numbers_of;
 use scripts::saying::{Refused, Said};
 use scripts::verb::{call_of, verb_of};
 use std::alloc::{AllocError, Global};
@@ -34,7 +34,7 @@ fn pairs_of(heap: Global, numbers: &[u32]) -> Result<Vec<Pair>, AllocError> {
 
 // Answers a line `count level loss rate ..`.
 fn count_line(heap: Global, line: &str) -> Result<String, Halt> {
-    let numbers = read_numbers(heap, line, 1)?;
+    let numbers = numbers_of(heap, line, 1)?;
     let [level, ways @ ..] = &numbers[..] else {
         return Err(Halt::NoCall(Wrong::Count));
     };
@@ -52,7 +52,7 @@ impl Probe {
     // Answers a line `open L NB NC ceiling share..`.
     fn open_line(&mut self, heap: Global, line: &str) -> Result<String, Halt> {
         let handed = handed_by(line)?;
-        let numbers = read_numbers(heap, line, 4)?;
+        let numbers = numbers_of(heap, line, 4)?;
         let [ceiling, shares @ ..] = &numbers[..] else {
             return Err(Halt::NoCall(Wrong::Count));
         };
@@ -65,7 +65,7 @@ impl Probe {
     fn call_line(&mut self, heap: Global, line: &str) -> Result<String, Halt> {
         let verb = verb_of(word_at(line, 0), word_at(line, 4)).ok_or(Wrong::Verb)?;
         let handed = handed_by(line)?;
-        let numbers = read_numbers(heap, line, verb.words() + 3)?;
+        let numbers = numbers_of(heap, line, verb.words() + 3)?;
         let call = call_of(verb, &numbers[..]).ok_or(Wrong::Count)?;
         let mut places = self.places.lend(handed)?;
         let told = step::<Claims>(&mut self.book, call, &mut places);

@@ -28,18 +28,27 @@ pub enum Wrong {
     Room,
 }
 
-impl fmt::Display for Wrong {
-    ghost output = { λ wrong. Some (wrong_said wrong) };
-
-    fn fmt<W: fmt::Write>(&self, f: &mut fmt::Formatter<W>) -> fmt::Result {
-        f.write_str(match self {
+impl Wrong {
+    // The fault in words.
+    pub fn text(self) -> &'static str
+        ensures { result.now ≡ wrong_said self }
+    {
+        match self {
             Wrong::Verb => "there is no such call",
             Wrong::Number => "a word is no number, or is too large a number",
             Wrong::Count => "the words are too few or too many",
             Wrong::Places => "there are 65540 level places, and 524300 value places of each kind",
             Wrong::Bytes => "bytes are written as pairs of hexadecimal digits, and no bytes as -",
             Wrong::Room => "write is handed at most 1000000 bytes",
-        })
+        }
+    }
+}
+
+impl fmt::Display for Wrong {
+    ghost output = { λ wrong. Some (wrong_said wrong) };
+
+    fn fmt<W: fmt::Write>(&self, f: &mut fmt::Formatter<W>) -> fmt::Result {
+        f.write_str(self.text())
     }
 }
 

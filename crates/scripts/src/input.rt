@@ -34,15 +34,30 @@ pub fn end_at<T, W: fmt::Display>(
     Err(anyhow!(end))
 }
 
-// The text of standard input; where it is no text, that is said, and it ends in an error.
-pub fn read_script_text(rt: &HostRuntime, end: &'static str) -> anyhow::Result<String> {
+// Says on standard error what is wrong with a line, counted from 1.
+pub fn say_fault(rt: &HostRuntime, line: usize, what: &str) -> anyhow::Result<()> {
+    let fault = Fault { line, what };
+    eprintln!(rt; "{fault}")?;
+    Ok(())
+}
+
+// The text of standard input; none where it is no text, which is then said.
+pub fn read_script_text(rt: &HostRuntime) -> anyhow::Result<Option<String>> {
     let mut bytes: Vec<u8> = Vec::new(rt.alloc());
     rt.stdin().read_to_end(&mut bytes)?;
     match String::from_utf8(bytes) {
-        Ok(text) => Ok(text),
+        Ok(text) => Ok(Some(text)),
         Err(_) => {
-            let what = "the script is not text";
-            end_at(rt, &Fault { line: 1, what }, end)
+            say_fault(rt, 1, "the script is not text")?;
+            Ok(None)
         }
+    }
+}
+
+// The same, where it ends in an error if it is no text.
+pub fn script_text(rt: &HostRuntime, end: &'static str) -> anyhow::Result<String> {
+    match read_script_text(rt)? {
+        Some(text) => Ok(text),
+        None => Err(anyhow!(end)),
     }
 }

@@ -1,5 +1,5 @@
 // The numbers of a line.
-ghost use Rattle.std.specs.Prelude.{◌≡◌};
+ghost use Rattle.std.specs.Prelude.{◌≡◌, ◌≤◌, vec_len};
 ghost use Rattle.scripts.specs.declared.numbers.NoNumbers.TheVariants.{NotANumber, NoMemory};
 
 use std::alloc::{AllocError, Global};
@@ -28,10 +28,30 @@ impl From<AllocError> for NoNumbers {
     }
 }
 
-// The numbers of a line's words past the first `skip`.
-pub fn read_numbers(heap: Global, line: &str, skip: usize) -> Result<Vec<u32>, NoNumbers> {
-    line.split(' ')
-        .skip(skip)
-        .map(|word| -> Result<u32, NoNumbers> { Ok(word.parse()?) })
-        .try_collect(heap)
+// Appends the numbers of a line's words past the first `skip`.
+fn append(line: &str, skip: usize, numbers: &mut Vec<u32>) -> Result<(), NoNumbers>
+    ensures grows { vec_len numbers.old ≤ vec_len numbers.new }
+{
+    for word in line.split(' ').skip(skip) {
+        numbers.push(word.parse()?).map_err(AllocError::from)?;
+    }
+    Ok(())
+}
+
+// Appends the numbers of a line's words past the first `skip`; false where one is no number of 32 bits.
+pub fn read_numbers(line: &str, skip: usize, numbers: &mut Vec<u32>) -> Result<bool, AllocError>
+    ensures grows { vec_len numbers.old ≤ vec_len numbers.new }
+{
+    match append(line, skip, numbers) {
+        Ok(()) => Ok(true),
+        Err(NoNumbers::NoMemory(wrong)) => Err(wrong),
+        Err(_) => Ok(false),
+    }
+}
+
+// The numbers of a line's words past the first `skip`, in a list of their own.
+pub fn numbers_of(heap: Global, line: &str, skip: usize) -> Result<Vec<u32>, NoNumbers> {
+    let mut numbers = Vec::new(heap);
+    append(line, skip, &mut numbers)?;
+    Ok(numbers)
 }

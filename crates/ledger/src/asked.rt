@@ -1,0 +1,59 @@
+// The calls of a script, by their verbs and numbers.
+ghost use Rattle.std.specs.Prelude.{◌≡◌, ◌≤◌, true, vec_len};
+ghost use Rattle.std.specs.List.{sum_by};
+ghost use Rattle.scripts.specs.Asked.{takes};
+
+use law::call::Call;
+use scripts::verb::{Verb, call_of};
+use std::alloc::{AllocError, Global};
+
+// A call by its verb and by how many numbers it has: as many as the verb takes.
+#[derive(Clone, Copy)]
+pub(crate) struct Asked {
+    pub(crate) verb: Verb,
+    pub(crate) count: usize,
+    ghost taken: { takes verb count ≡ true },
+}
+
+// Calls in their order, and the numbers of all of them in one list, each call's behind those of the one before: a list for each call would take twice the memory.
+#[derive(Drop)]
+pub(crate) struct AskedCalls {
+    pub(crate) asked: Vec<Asked>,
+    pub(crate) numbers: Vec<u32>,
+    ghost enough: { sum_by (λ a. a.count) asked.items ≤ vec_len numbers },
+}
+
+impl AskedCalls {
+    pub(crate) fn new(heap: Global) -> AskedCalls {
+        AskedCalls {
+            asked: Vec::new(heap),
+            numbers: Vec::new(heap),
+        }
+    }
+
+    // Appends the call that a verb makes of the numbers from a place on; false where it takes another count.
+    pub(crate) fn add(&mut self, verb: Verb, from: usize) -> Result<bool, AllocError>
+        requires behind { sum_by (λ a. a.count) self.old.asked.items ≤ from }
+        requires within { from ≤ vec_len self.old.numbers }
+    {
+        let own = &self.numbers[from..];
+        if call_of(verb, own).is_none() {
+            return Ok(false);
+        }
+        let count = own.len();
+        self.asked.push(Asked { verb, count })?;
+        Ok(true)
+    }
+
+    // The calls, each with its numbers.
+    pub(crate) fn calls(&self, heap: Global) -> Result<Vec<Call<'_>>, AllocError> {
+        let mut calls = Vec::with_capacity(heap, self.asked.len())?;
+        let mut rest = &self.numbers[..];
+        for asked in self.asked.iter() {
+            let (own, later) = rest.split_at(asked.count);
+            calls.push(call_of(asked.verb, own).unwrap())?;
+            rest = later;
+        }
+        Ok(calls)
+    }
+}
