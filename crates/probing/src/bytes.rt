@@ -2,12 +2,15 @@
 use crate::wrong::{Halt, Wrong};
 use std::alloc::{AllocError, Global};
 
-// The bytes of a word.
+// The bytes of a word. Its digits are looked at first, since decoding takes memory for all of them before it looks at one.
 pub(crate) fn bytes_of(heap: Global, word: &str) -> Result<Vec<u8>, Halt> {
     match word {
         "-" => Ok(Vec::new(heap)),
         "" => Err(Halt::NoCall(Wrong::Bytes)),
-        digits => Ok(hex::decode(heap, digits)?),
+        digits if digits.bytes().all(|digit| digit.is_ascii_hexdigit()) => {
+            Ok(hex::decode(heap, digits)?)
+        }
+        _ => Err(Halt::NoCall(Wrong::Bytes)),
     }
 }
 

@@ -6,6 +6,13 @@ use std::fs;
 pub trait Answering {
     // The answer to what the file of that name holds.
     fn answer(rt: &HostRuntime, input: &str) -> anyhow::Result<Vec<u8>>;
+
+    // Whether that is what the other file holds, which is read first.
+    fn agrees(rt: &HostRuntime, input: &str, output: &str) -> anyhow::Result<bool> {
+        let expected = fs::read(rt, output)?;
+        let answer = Self::answer(rt, input)?;
+        Ok(answer[..] == expected[..])
+    }
 }
 
 // A tariff file gets its statement.

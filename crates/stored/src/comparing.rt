@@ -64,7 +64,5 @@ fn agrees<A: Answering>(rt: &HostRuntime, folder: &str, name: &str) -> anyhow::R
     let heap = rt.alloc();
     let input = format!(in heap; "{folder}{name}.in")?;
     let output = format!(in heap; "{folder}{name}.out")?;
-    let expected = fs::read(rt, output.as_str())?;
-    let answer = A::answer(rt, input.as_str())?;
-    Ok(answer[..] == expected[..])
+    A::agrees(rt, input.as_str(), output.as_str())
 }
