@@ -10,6 +10,17 @@ use itoa::Buffer;
 #[derive(Drop)]
 pub(crate) struct Line {
     pub(crate) bytes: ArrayVec<u8, 256>,
+    // where a number's digits are made: one for all of a line, since a new one is filled with zeros first
+    digits: Buffer,
+}
+
+// How many decimal digits a number has.
+pub(crate) fn digit_count(n: u64) -> usize
+    ensures value { result ≡ length (decimal n) }
+    ensures bound { result ≤ 20 }
+{
+    let mut digits = Buffer::new();
+    digits.format(n).len()
 }
 
 impl Line {
@@ -20,7 +31,16 @@ impl Line {
     {
         Line {
             bytes: ArrayVec::new(),
+            digits: Buffer::new(),
         }
+    }
+
+    // Takes out what is in it.
+    pub(crate) fn clear(&mut self)
+        ensures empty { self.new.bytes.items ≡ [] }
+        ensures none { array_vec_len self.new.bytes ≡ 0 }
+    {
+        self.bytes.clear();
     }
 
     // The bytes.
@@ -55,8 +75,9 @@ impl Line {
         ensures after { self.new.bytes.items ≡ self.old.bytes.items ++ decimal n }
         ensures longer { array_vec_len self.new.bytes ≤ array_vec_len self.old.bytes + 20 }
     {
-        let mut digits = Buffer::new();
-        self.put(digits.format(n).as_bytes());
+        let digits = self.digits.format(n).as_bytes();
+        // there is room, so all of them are taken
+        let _ = self.bytes.try_extend_from_slice(digits);
     }
 
     // Appends a space and a number.

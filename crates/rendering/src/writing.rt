@@ -6,10 +6,10 @@ ghost use Rattle.book.specs.Entries.{entry_of};
 ghost use Rattle.book.specs.Listed.{listed};
 ghost use Rattle.tariff.specs.Files.{numbers_of, file_text};
 ghost use Rattle.lines.specs.Places.{written};
-ghost use Rattle.lines.specs.Texts.{line_text, trailer_text};
+ghost use Rattle.lines.specs.Texts.{line_text, numbers_text, trailer_text};
 ghost use Rattle.rendering.specs.Told.{Tells};
 
-use crate::line::Line;
+use crate::line::{Line, digit_count};
 use crate::text::TooFew;
 use arrayvec::ArrayVec;
 use book::book::Book;
@@ -62,17 +62,27 @@ trait Lined {
     // the bytes of its line in a book of so many scenarios
     ghost text: { ℕ → Self → List ℕ };
 
-    fn line(&self, scenarios: usize) -> Line
-        ensures text { result.bytes.items ≡ text scenarios self.now }
-        ensures short { array_vec_len result.bytes ≤ 256 };
+    // How long the line is.
+    fn line_length(&self, scenarios: usize) -> usize
+        ensures value { result ≡ length (text scenarios self.now) }
+        ensures bound { result ≤ 256 };
+
+    // Makes it in place of another line.
+    fn line_in(&self, scenarios: usize, line: &mut Line)
+        ensures text { line.new.bytes.items ≡ text scenarios self.now }
+        ensures short { array_vec_len line.new.bytes ≤ 256 };
 }
 
 // A share has an S line.
 impl Lined for u32 {
     ghost text = { λ scenarios share. line_text 83 (share ∷ []) };
 
-    fn line(&self, _scenarios: usize) -> Line {
-        line_of(b'S', &[*self])
+    fn line_length(&self, _scenarios: usize) -> usize {
+        length_of(&[*self])
+    }
+
+    fn line_in(&self, _scenarios: usize, line: &mut Line) {
+        line_of(b'S', &[*self], line);
     }
 }
 
@@ -80,9 +90,14 @@ impl Lined for u32 {
 impl Lined for Contract {
     ghost text = { λ scenarios contract. line_text 67 (numbers_of (entry_of scenarios contract)) };
 
-    fn line(&self, scenarios: usize) -> Line {
+    fn line_length(&self, scenarios: usize) -> usize {
         let numbers = numbers_of(self, scenarios);
-        line_of(b'C', numbers.as_slice())
+        length_of(numbers.as_slice())
+    }
+
+    fn line_in(&self, scenarios: usize, line: &mut Line) {
+        let numbers = numbers_of(self, scenarios);
+        line_of(b'C', numbers.as_slice(), line);
     }
 }
 
@@ -92,21 +107,20 @@ fn lines_length<T: Lined>(items: &[T], scenarios: usize) -> usize
     ensures value { result ≡ length (flat_map (T.text scenarios) items.now) }
     ensures bound { result ≤ 65536 }
 {
-    items
-        .iter()
-        .map(|item| item.line(scenarios).as_slice().len())
-        .sum()
+    items.iter().map(|item| item.line_length(scenarios)).sum()
 }
 
-// Puts the lines of these in turn, and answers the place behind them.
+// Puts the lines of these in turn, and answers the place behind them. They are made in one line, since a new one costs more than the numbers in it.
 fn put_lines<T: Lined>(out: &mut [u8], from: usize, items: &[T], scenarios: usize) -> usize
     requires fits { from + length (flat_map (T.text scenarios) items.now) ≤ length out.old }
     ensures value { result ≡ from + length (flat_map (T.text scenarios) items.now) }
     ensures after { out.new ≡ written out.old from (flat_map (T.text scenarios) items.now) }
 {
+    let mut line = Line::new();
     let mut at = from;
     for item in items {
-        at = put_line(out, at, &item.line(scenarios));
+        item.line_in(scenarios, &mut line);
+        at = put_line(out, at, &line);
     }
     at
 }
@@ -135,19 +149,31 @@ fn numbers_of(contract: &Contract, scenarios: usize) -> ArrayVec<u32, 10>
     numbers
 }
 
-// A line of a letter and at most ten numbers.
-fn line_of(letter: u8, numbers: &[u32]) -> Line
+// How long a line of at most ten numbers is.
+fn length_of(numbers: &[u32]) -> usize
     requires few { length numbers.now ≤ 10 }
-    ensures text { result.bytes.items ≡ line_text letter numbers.now }
-    ensures short { array_vec_len result.bytes ≤ 256 }
+    ensures value { result ≡ length (numbers_text numbers.now) + 2 }
+    ensures bound { result ≤ 256 }
 {
-    let mut line = Line::new();
+    let mut length: usize = 2;
+    for n in numbers {
+        length += digit_count(u64::from(*n)) + 1;
+    }
+    length
+}
+
+// Makes a line of a letter and at most ten numbers, in place of another.
+fn line_of(letter: u8, numbers: &[u32], line: &mut Line)
+    requires few { length numbers.now ≤ 10 }
+    ensures text { line.new.bytes.items ≡ line_text letter numbers.now }
+    ensures short { array_vec_len line.new.bytes ≤ 256 }
+{
+    line.clear();
     line.put_byte(letter);
     for n in numbers {
         line.put_spaced(u64::from(*n));
     }
     line.put_byte(b'\n');
-    line
 }
 
 // The line of a trailer.

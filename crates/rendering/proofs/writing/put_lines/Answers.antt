@@ -11,7 +11,7 @@ put_line-at-requires g c =
     let text = g.T.Lined.text c.args.scenarios in
     let room = length-flat_map-take text c.args.items.now c.loop-item.item-index c.item-item.result c.loop-item-test.true in
     let same = ap (λ x. length (text x)) c.item-item.is in
-    let long = ap length c.line.ensures.text in
+    let long = ap length c.line_in.ensures.text in
     record { fits = omega arith }
 
 pub loop-item-preserved : goal.loop-item-preserved
@@ -20,7 +20,7 @@ loop-item-preserved g c =
     let items = c.args.items.now in
     let i = c.loop-item.item-index in
     let before = flat_map text (take i items) in
-    let line = c.line.ensures.text ∙ ap text c.item-item.is in
+    let line = c.line_in.ensures.text ∙ ap text c.item-item.is in
     let more = texts_more text items i c.item-item.result c.loop-item-test.true in
     let long = ap length more ∙ length-append before (text _) in
     let same = ap length line in
