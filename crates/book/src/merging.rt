@@ -3,8 +3,6 @@ ghost use Rattle.std.specs.Prelude.{◌≡◌, ℕ, ◌+◌, ◌-◌, ◌*◌, �
 ghost use Rattle.book.specs.Told.{found_below};
 ghost use Rattle.book.specs.Turned.{turns, levels_turned, merge_of, LeftOf, TurnsTo};
 
-use std::cmp::Ordering;
-
 // What is left to merge: so many own levels, and so many of those that the loss moves up. The levels go along beside it, since merge_levels writes them.
 #[derive(Clone, Copy)]
 pub(crate) struct Merge {
@@ -55,26 +53,21 @@ impl Merge {
             return None;
         }
         let a = levels[self.own - 1];
-        let without_own = Merge {
-            own: self.own - 1,
+        if self.moved == 0 {
+            let rest = Merge {
+                own: self.own - 1,
+                ..self
+            };
+            return Some((a, rest));
+        }
+        let b = levels[self.moved - 1].saturating_add(self.loss);
+        // the higher one goes, and both where they are the same: counted, for a branch on it would often be foreseen wrongly
+        let rest = Merge {
+            own: self.own - usize::from(b <= a),
+            moved: self.moved - usize::from(a <= b),
             ..self
         };
-        if self.moved == 0 {
-            return Some((a, without_own));
-        }
-        let moved = self.moved - 1;
-        let b = levels[moved].saturating_add(self.loss);
-        match a.cmp(&b) {
-            Ordering::Less => Some((b, Merge { moved, ..self })),
-            Ordering::Greater => Some((a, without_own)),
-            Ordering::Equal => Some((
-                a,
-                Merge {
-                    moved,
-                    ..without_own
-                },
-            )),
-        }
+        Some((a.max(b), rest))
     }
 }
 
