@@ -7,3 +7,4 @@ pub mod Truths
 pub mod Formed
 pub mod Tellings
 pub mod Runs
+pub mod Ones

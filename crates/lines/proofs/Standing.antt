@@ -1,8 +1,8 @@
 -- Texts that stand in bytes.
 use Rattle.std.proofs.Common.{◌≡◌, ℕ, ◌+◌, ◌-◌, ◌<◌, ◌≤◌, List, ◌∷◌, ◌++◌, length, get_or, take, drop, sym, refl, ap, ◌∙◌, arith, length-append, length-drop, length-take, take-add}
-use Rattle.std.proofs.lemmas.List.{take-take, take_at, drop_at, drop-take, drop-drop, take-append-drop}
+use Rattle.std.proofs.lemmas.List.{length-take-le, take-take, take_at, drop_at, drop-take, drop-drop, take-append-drop}
 use Rattle.std.proofs.lemmas.List.Prefix.{at_reads}
-use Rattle.lines.specs.Places.{Stands}
+use Rattle.lines.specs.Places.{Stands, written}
 
 -- what stands in the bytes lies within them
 pub stands_within : (bytes : List ℕ) (place : ℕ) (text : List ℕ) → Stands bytes place text → 0 < length text → place + length text ≤ length bytes
@@ -46,3 +46,13 @@ pub part_stands : (bytes : List ℕ) (from end : ℕ) (text : List ℕ) → from
 part_stands bytes from end text h l e =
     let n : length text ≡ end - from = omega (arith, ap length e, length-take (end - from) (drop from bytes), length-drop from bytes) in
     (omega arith, ap (λ (k : ℕ). take k (drop from bytes)) n ∙ e)
+
+-- a text that is put stands where it was put
+pub written_stands : (bytes : List ℕ) (place : ℕ) (text : List ℕ) → place ≤ length bytes → Stands (written bytes place text) place text
+written_stands bytes place text h =
+    let l = length-take-le place bytes h in
+    ap (take (length text)) (drop_at (take place bytes) (text ++ drop (place + length text) bytes) place l) ∙ take_at text (drop (place + length text) bytes) (length text) refl
+
+-- texts of one length that stand at one place are equal
+pub same_standing : (bytes : List ℕ) (place : ℕ) (a b : List ℕ) → length a ≡ length b → Stands bytes place a → Stands bytes place b → a ≡ b
+same_standing bytes place a b l s t = sym s ∙ ap (λ (k : ℕ). take k (drop place bytes)) l ∙ t

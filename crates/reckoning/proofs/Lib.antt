@@ -1,2 +1,2 @@
 pub mod EachOnce
-mod Attained
+pub mod Attained

@@ -26,6 +26,9 @@ stands_for_none rates = record { ranged = (omega arith, omega arith); encloses =
 pub stands_for_whole : Stands (pair 1000000000000 1000000000000) [] ([] ∷ [])
 stands_for_whole = record { ranged = (omega arith, omega arith); encloses = record { above = omega arith; below = omega arith }; narrow = omega arith }
 
+pub ranged_where_stands : (g : Grains) (rates : List ℕ) (family : Family) → Stands g rates family → Ranged g
+ranged_where_stands g rates family s = s.ranged
+
 module _ (r : ℕ) (in_range : r ≤ 1000000) where
   odds_all : summed (odds r) both ≡ 1000000
   odds_all = omega arith

@@ -8,8 +8,18 @@ use Rattle.reckoning.specs.Outcomes.{Outcome, Family, odds, weight, extended, ei
 use Rattle.reckoning.specs.Counting.{claims, greater, greatest, Ranged, checked, one_more, blended, Stands}
 use Rattle.reckoning.specs.Weights.{weight_push}
 
+pub stands_for_none : (rates : List ℕ) → Stands None rates []
+stands_for_none rates = record { ranged = tt; is = refl }
+
 pub stands_for_whole : Stands (Some 0) [] ([] ∷ [])
 stands_for_whole = record { ranged = omega arith; is = refl }
+
+pub ranged_where_stands : (u : Option ℕ) (rates : List ℕ) (family : Family) → Stands u rates family → Ranged u
+ranged_where_stands u rates family s = s.ranged
+
+greater_none : (a : Option ℕ) → greater a None ≡ a
+greater_none None = refl
+greater_none (Some k) = refl
 
 -- what holds of both holds of the greater
 greater_keeps : (P : Option ℕ → Type 0) (a b : Option ℕ) → P a → P b → P (greater a b)
@@ -53,6 +63,9 @@ claims_true : (o : Outcome) → claims (o ++ (true ∷ [])) ≡ suc (claims o)
 claims_true [] = refl
 claims_true (true ∷ o) = ap suc (claims_true o)
 claims_true (false ∷ o) = claims_true o
+
+positive : (w s : ℕ) → 0 < s → nat_lt 0 (w * s) ≡ nat_lt 0 w
+positive w s h = grind (arith, nat_tests, mul-pos)
 
 module _ (rs : List ℕ) (r : ℕ) where
   pub weighs : (o : Outcome) (b : Bool) → 0 < odds r b → nat_lt 0 (weight (rs ++ (r ∷ [])) (o ++ (b ∷ []))) ≡ nat_lt 0 (weight rs o)

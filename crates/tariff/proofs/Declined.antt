@@ -1,15 +1,15 @@
 -- Which numbers and places the refusals of a read can have.
-use Rattle.std.proofs.Common.{◌≡◌, ℕ, ◌-◌, ◌≤◌, Bool, false, cond, not, ◌||◌, eqb, List, [], ◌∷◌, ◌++◌, map, length, drop, IfErr, Some, None, Ok, Err, Result, sym, refl, ap, ◌∙◌, subst, inl, inr, ⊎_elim, arith}
+use Rattle.std.proofs.Common.{◌≡◌, ℕ, ◌-◌, ◌≤◌, Bool, false, cond, not, ◌||◌, eqb, List, [], ◌∷◌, ◌++◌, map, length, drop, IfErr, Some, None, Option, Ok, Err, Result, sym, refl, ap, ◌∙◌, subst, inl, inr, ⊎_elim, arith}
 use Rattle.std.specs.List.{AllByRecursion}
 use Rattle.std.proofs.lemmas.List.{length-take, length-drop, length-append, map-append, take_all}
 use Rattle.std.proofs.lemmas.Bool.{cases_Bool, cond-true, cond-false, eq-eqb}
 use Rattle.reckoning.specs.Operations.{Operations}
 use Rattle.book.specs.declared.shown.Handed.{Handed}
-use Rattle.book.specs.Declines.{places_wrong, open_sentences, enter_sentences}
+use Rattle.book.specs.Declines.{places_wrong, open_sentences, enter_early, enter_sentences}
 use Rattle.book.specs.Laid.{State}
 use Rattle.book.specs.Listed.{listed}
 use Rattle.book.specs.Plain.{Entry, Plain, opened, with_entries}
-use Rattle.book.specs.Refusals.{Sentences, first, number_of}
+use Rattle.book.specs.Refusals.{Sentences, first, number_of, FreeOf}
 use Rattle.tariff.specs.declared.reading.FileRead.{FileRead}
 use Rattle.tariff.specs.declared.refusal.BookFault.{BookFault}
 use Rattle.tariff.specs.declared.refusal.LineFault.TheVariants.{Share, Contract}
@@ -70,6 +70,19 @@ entering_numbers h p e n fit is =
     first_among OfEntering later n
     ((omega arith, omega arith, λ z. omega arith), ((omega arith, omega arith, λ z. omega arith), ((omega arith, omega arith, λ z. omega arith), ((omega arith, omega arith, λ z. omega arith), ((omega arith, omega arith, λ z. omega arith), tt)))))
     (sym skipped ∙ is)
+
+-- the same where the early sentences decide all but the last number
+pub early_numbers : (h : Handed) (p : Plain) (k w : ℕ) (rs : List ℕ) (n : ℕ) → places_wrong h p ≡ false → FreeOf 13 (first (enter_early h p k w rs)) (Some n) → OfEntering n
+early_numbers h p k w rs n fit free = by (first (enter_early h p k w rs)) refl free
+  where
+    by : (early : Option ℕ) → first (enter_early h p k w rs) ≡ early → FreeOf 13 early (Some n) → OfEntering n
+    by (Some m) is e =
+        let later = elim (enter_early h p k w rs) as (λ _. Sentences) [ [] ↦ [] | s ∷ ss ↦ ss ] in
+        let skipped : first (enter_early h p k w rs) ≡ first later = ap (λ (b : Bool). cond b (Some 7) (first later)) fit in
+        first_among OfEntering later n
+        ((omega arith, omega arith, λ z. omega arith), ((omega arith, omega arith, λ z. omega arith), ((omega arith, omega arith, λ z. omega arith), ((omega arith, omega arith, λ z. omega arith), tt))))
+        (sym skipped ∙ is ∙ sym e)
+    by None is e = ⊎_elim (λ a. let z : ◌≡◌ {A = ℕ} 0 1 = cc in absurd (omega arith)) (λ b. let same : 13 ≡ n = cc in subst OfEntering same (omega arith, omega arith, λ z. omega arith)) e
 
 -- a fault of the form is told by 1 to 4, within the file
 form_comes : (file : List ℕ) (e : FileFault) → FormWrong file e → MayCome (length file) e
