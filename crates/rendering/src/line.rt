@@ -14,11 +14,15 @@ pub(crate) struct Line {
     digits: Buffer,
 }
 
-// How many decimal digits a number has.
+// How many decimal digits a number has. One digit is told without being made.
+#[tactic(auto, using(std::proofs::lemmas::Fmt::decimal_digit))]
 pub(crate) fn digit_count(n: u64) -> usize
     ensures value { result ≡ length (decimal n) }
     ensures bound { result ≤ 20 }
 {
+    if n < 10 {
+        return 1;
+    }
     let mut digits = Buffer::new();
     digits.format(n).len()
 }
@@ -69,12 +73,17 @@ impl Line {
         self.bytes.push(byte);
     }
 
-    // Appends a number without leading zeros.
+    // Appends a number without leading zeros: one digit as a byte, more by way of the place where digits are made.
+    #[tactic(auto, using(std::proofs::lemmas::Fmt::decimal_digit))]
     pub(crate) fn put_number(&mut self, n: u64)
         requires room { array_vec_len self.old.bytes + 20 ≤ 256 }
         ensures after { self.new.bytes.items ≡ self.old.bytes.items ++ decimal n }
         ensures longer { array_vec_len self.new.bytes ≤ array_vec_len self.old.bytes + 20 }
     {
+        if n < 10 {
+            self.put_byte(b'0' + n as u8);
+            return;
+        }
         let digits = self.digits.format(n).as_bytes();
         // there is room, so all of them are taken
         let _ = self.bytes.try_extend_from_slice(digits);
