@@ -75,7 +75,8 @@ fn kind_of(first: &str, second: &str) -> Option<Kind> {
     }
 }
 
-// A line's kind, and how many words say it.
+// A line's kind, and how many words say it. Inlined, as append_numbers is: each line of a long script goes through both.
+#[inline(always)]
 fn read_kind(before: usize, line: &str) -> Result<(Kind, usize), Halt> {
     let mut words = line.split(' ');
     let first = words.next().unwrap_or("");
@@ -88,6 +89,7 @@ fn read_kind(before: usize, line: &str) -> Result<(Kind, usize), Halt> {
 }
 
 // Appends the numbers of a line's words past the first `skip`.
+#[inline(always)]
 fn append_numbers(
     before: usize,
     line: &str,
