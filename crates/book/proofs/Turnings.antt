@@ -23,7 +23,7 @@ module _ (xs : List ℕ) (m rest : Merge) (top : ℕ) (to : TurnsTo xs m top res
       ∙ ap (λ (w : ℕ). levels_turned t (set xs t top) rest.own rest.moved w) (sym to.2)
       ∙ ap (λ (k : ℕ). levels_turned k (set xs k top) rest.own rest.moved rest.loss) e
 
-  turns_more : (f : ℕ) → 0 < f → turns f xs m.own m.moved m.loss ≡ suc (turns (f - 1) xs rest.own rest.moved rest.loss)
+  pub turns_more : (f : ℕ) → 0 < f → turns f xs m.own m.moved m.loss ≡ suc (turns (f - 1) xs rest.own rest.moved rest.loss)
   turns_more zero h = absurd (omega arith)
   turns_more (suc f) h =
       let e : f ≡ suc f - 1 = omega arith in

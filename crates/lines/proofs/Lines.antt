@@ -104,11 +104,15 @@ same_ended_number bytes place m n x y =
     let f = number_ends_field bytes (place + 1) n y.mark y.small y.ends s in
     same_number bytes place (place + 1 + length (decimal n)) n f y.small (ended_field bytes place (place + 1 + length (decimal n)) n f y) m x
 
+-- the numbers of one list behind those of another
+pub numbers_text_append : (ms ns : List ℕ) → numbers_text (ms ++ ns) ≡ numbers_text ms ++ numbers_text ns
+numbers_text_append [] ns = refl
+numbers_text_append (m ∷ ms) ns =
+    ap (λ (text : List ℕ). 32 ∷ (decimal m ++ text)) (numbers_text_append ms ns)
+    ∙ ap (λ (text : List ℕ). 32 ∷ text) (sym (append_assoc (decimal m) (numbers_text ms) (numbers_text ns)))
+
 pub numbers_text_push : (ns : List ℕ) (n : ℕ) → numbers_text (ns ++ (n ∷ [])) ≡ numbers_text ns ++ (32 ∷ decimal n)
-numbers_text_push [] n = ap (λ (text : List ℕ). 32 ∷ text) (append-nil (decimal n))
-numbers_text_push (m ∷ ns) n =
-    ap (λ (text : List ℕ). 32 ∷ (decimal m ++ text)) (numbers_text_push ns n)
-    ∙ ap (λ (text : List ℕ). 32 ∷ text) (sym (append_assoc (decimal m) (numbers_text ns) (32 ∷ decimal n)))
+numbers_text_push ns n = numbers_text_append ns (n ∷ []) ∙ ap (λ (text : List ℕ). numbers_text ns ++ (32 ∷ text)) (append-nil (decimal n))
 
 -- a number of a line is ended by the next space or by the line end
 pub number_is_ended : (bytes : List ℕ) (at n : ℕ) (ns : List ℕ) → n < 2 ^ 32 → Stands bytes at (numbers_text (n ∷ ns) ++ (10 ∷ [])) → EndedNumber bytes at n

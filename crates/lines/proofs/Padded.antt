@@ -1,8 +1,9 @@
 -- Numbers in a fixed count of digits.
-use Rattle.std.proofs.Common.{◌≡◌, ℕ, zero, suc, ◌+◌, ◌*◌, ◌/◌, ◌%◌, ◌^◌, ◌<◌, ◌≤◌, [], ◌∷◌, ◌++◌, length, get_or, refl, ap, ◌∙◌, ⊎_elim, pow-suc, add-one, arith}
+use Rattle.std.proofs.Common.{◌≡◌, ℕ, zero, suc, ◌+◌, ◌*◌, ◌/◌, ◌%◌, ◌^◌, ◌<◌, ◌≤◌, List, [], ◌∷◌, ◌++◌, length, get_or, decimal, sym, refl, ap, ◌∙◌, ⊎_elim, pow-suc, add-one, arith}
 use Rattle.std.specs.Int.{IsInRange}
 use Rattle.std.proofs.lemmas.List.{length_push, get_or_append_left, get_or_push, same_from_push}
 use Rattle.std.proofs.lemmas.Bool.{cases_lt}
+use Rattle.std.proofs.lemmas.Fmt.{decimal_by_steps}
 use Rattle.lines.specs.Texts.{padded}
 
 pub length_padded : (k n : ℕ) → length (padded k n) ≡ k
@@ -37,3 +38,11 @@ same_from_padded (suc k) m n a b e =
     let q = same_from_padded k (m / 10) (n / 10) (omega arith) (omega arith) s.0 in
     let r = s.1 in
     omega arith
+
+-- the decimal digits of a number are as many digits of it as there are
+pub decimal_padded : (n : ℕ) → n < 2 ^ 64 → decimal n ≡ padded (length (decimal n)) n
+decimal_padded n h =
+    decimal_by_steps (λ m ds. ds ≡ padded (length ds) m)
+    (λ m b. let r : m % 10 ≡ m = omega arith in ap (λ (d : ℕ). (48 + d) ∷ []) (sym r))
+    (λ m ds b e. ap (λ (xs : List ℕ). xs ++ ((48 + m % 10) ∷ [])) e ∙ sym (padded_step (length ds) m) ∙ ap (λ (k : ℕ). padded k m) (sym (length_push ds (48 + m % 10))))
+    n h

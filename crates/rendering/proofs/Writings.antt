@@ -8,7 +8,7 @@ written_pasted : (bs : List ℕ) (from : ℕ) (a : List ℕ) → written bs from
 written_pasted bs from a = sym (paste_all bs from a (length a) refl)
 
 -- two texts put one after the other are one text
-written_written : (bs : List ℕ) (from : ℕ) (a b : List ℕ) → from ≤ length bs →
+pub written_written : (bs : List ℕ) (from : ℕ) (a b : List ℕ) → from ≤ length bs →
     written (written bs from a) (from + length a) b ≡ written bs from (a ++ b)
 written_written bs from a b h =
     written_pasted (written bs from a) (from + length a) b

@@ -44,10 +44,10 @@ module _ (ps : List Pair) (p : Pair) (k : ℕ) where
   split = within_either (losses ps) p.loss k (outcomes (length ps)) (rw length-map (outcomes_sized (length ps)))
 
   -- as many as lie on either branch
-  abbrev without_claim : ℕ
+  abbrev pub without_claim : ℕ
   without_claim = length (possible all_rates (extended false before))
 
-  abbrev with_claim : ℕ
+  abbrev pub with_claim : ℕ
   with_claim = length (possible all_rates (extended true room))
 
   two_branches : tally (ps ++ (p ∷ [])) k ≡ without_claim + with_claim
