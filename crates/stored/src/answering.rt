@@ -7,7 +7,7 @@ pub trait Answering {
     // The answer to what the file of that name holds.
     fn answer(rt: &HostRuntime, input: &str) -> anyhow::Result<Vec<u8>>;
 
-    // Whether that is what the other file holds, which is read first.
+    // Whether that is what the other file holds. A kind says which of the two is read first, since it is the one told of where both are missing: here the other one.
     fn agrees(rt: &HostRuntime, input: &str, output: &str) -> anyhow::Result<bool> {
         let expected = fs::read(rt, output)?;
         let answer = Self::answer(rt, input)?;
