@@ -149,12 +149,15 @@ fn read_places(heap: Global, line: &str) -> Result<Handed, Halt> {
     }
 }
 
-// Ceiling and shares, by the second line.
+// Ceiling and shares, by the second line. The shares stay in the list that they were read into: a copy of a long one would be asked for before the rest is read.
 fn read_opening(heap: Global, line: &str) -> Result<(u32, Vec<u32>), Halt> {
-    let Line { kind, numbers } = read_line(heap, 1, line)?;
-    match (kind, &numbers[..]) {
-        (Kind::Open, [ceiling, shares @ ..]) => Ok((*ceiling, Vec::from_slice(heap, shares)?)),
-        (Kind::Open, []) => Err(wrong_at(1, "open takes a ceiling and shares")),
+    let Line { kind, mut numbers } = read_line(heap, 1, line)?;
+    match kind {
+        Kind::Open if numbers.is_empty() => Err(wrong_at(1, "open takes a ceiling and shares")),
+        Kind::Open => {
+            let ceiling = numbers.remove(0);
+            Ok((ceiling, numbers))
+        }
         _ => Err(wrong_at(1, "the second line has to be open")),
     }
 }
