@@ -1,5 +1,5 @@
 // The calls of a script, by their verbs and numbers.
-ghost use Rattle.std.specs.Prelude.{◌≡◌, ◌≤◌, true, vec_len};
+ghost use Rattle.std.specs.Prelude.{◌≡◌, ◌+◌, ◌≤◌, true, vec_len};
 ghost use Rattle.std.specs.List.{sum_by};
 ghost use Rattle.scripts.specs.Asked.{takes};
 
@@ -15,25 +15,33 @@ pub(crate) struct Asked {
     ghost taken: { takes verb count ≡ true },
 }
 
-// Calls in their order, and the numbers of all of them in one list, each call's behind those of the one before: a list for each call takes up to 1.4 times the memory and 1.7 times the time.
+// Calls in their order, and one list of numbers: the shares of the opening, and behind them those of each call behind the one before. A list for each call takes up to 1.4 times the memory and 1.7 times the time, and one more for the shares up to a third more memory.
 #[derive(Drop)]
 pub(crate) struct AskedCalls {
     pub(crate) asked: Vec<Asked>,
     pub(crate) numbers: Vec<u32>,
-    ghost enough: { sum_by (λ a. a.count) asked.items ≤ vec_len numbers },
+    pub(crate) opening: usize,
+    ghost enough: { opening + sum_by (λ a. a.count) asked.items ≤ vec_len numbers },
 }
 
 impl AskedCalls {
-    pub(crate) fn new(heap: Global) -> AskedCalls {
+    // No call yet, behind an opening with these shares.
+    pub(crate) fn behind(heap: Global, shares: Vec<u32>) -> AskedCalls {
         AskedCalls {
             asked: Vec::new(heap),
-            numbers: Vec::new(heap),
+            opening: shares.len(),
+            numbers: shares,
         }
+    }
+
+    // The shares of the opening.
+    pub(crate) fn shares(&self) -> &[u32] {
+        &self.numbers[..self.opening]
     }
 
     // Appends the call that a verb makes of the numbers from a place on; false where it takes another count.
     pub(crate) fn add(&mut self, verb: Verb, from: usize) -> Result<bool, AllocError>
-        requires behind { sum_by (λ a. a.count) self.old.asked.items ≤ from }
+        requires behind { self.old.opening + sum_by (λ a. a.count) self.old.asked.items ≤ from }
         requires within { from ≤ vec_len self.old.numbers }
     {
         let own = &self.numbers[from..];
@@ -48,7 +56,7 @@ impl AskedCalls {
     // The calls, each with its numbers.
     pub(crate) fn calls(&self, heap: Global) -> Result<Vec<Call<'_>>, AllocError> {
         let mut calls = Vec::with_capacity(heap, self.asked.len())?;
-        let mut rest = &self.numbers[..];
+        let mut rest = &self.numbers[self.opening..];
         for asked in self.asked.iter() {
             let (own, later) = rest.split_at(asked.count);
             calls.push(call_of(asked.verb, own).unwrap())?;

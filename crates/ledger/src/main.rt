@@ -54,7 +54,7 @@ fn answers(heap: Global, script: &Script) -> Result<Vec<u8>, AllocError> {
     let opened = run::<Claims>(
         &mut book,
         script.ceiling,
-        &script.shares[..],
+        script.shares(),
         &calls[..],
         &mut Lent::new(&mut levels[..], &mut bounds[..], &mut values[..]),
         &mut told[..],

@@ -47,11 +47,15 @@ struct Line {
 pub(crate) struct Script {
     pub(crate) places: Handed,
     pub(crate) ceiling: u32,
-    pub(crate) shares: Vec<u32>,
     asked: AskedCalls,
 }
 
 impl Script {
+    // The shares of the opening.
+    pub(crate) fn shares(&self) -> &[u32] {
+        self.asked.shares()
+    }
+
     // The calls in their order.
     pub(crate) fn calls(&self, heap: Global) -> Result<Vec<Call<'_>>, AllocError> {
         self.asked.calls(heap)
@@ -173,14 +177,13 @@ pub(crate) fn read_script(heap: Global, text: &str) -> Result<Script, Halt> {
         return Err(wrong_at(1, "a script begins with places and open"));
     };
     let (ceiling, shares) = read_opening(heap, second)?;
-    let mut asked = AskedCalls::new(heap);
+    let mut asked = AskedCalls::behind(heap, shares);
     for (before, line) in lines {
         asked.read(before, line)?;
     }
     Ok(Script {
         places,
         ceiling,
-        shares,
         asked,
     })
 }
