@@ -1,4 +1,4 @@
-// The calls of a script, by their verbs and numbers.
+// The calls of a script, by their verbs and numbers, behind the shares of its opening.
 ghost use Rattle.std.specs.Prelude.{◌≡◌, ◌+◌, ◌≤◌, true, vec_len};
 ghost use Rattle.std.specs.List.{sum_by};
 ghost use Rattle.scripts.specs.Asked.{takes};
